@@ -1,0 +1,7 @@
+// The kinds of plant that a net text can be of.
+#[derive(Clone, Copy)]
+pub enum Kind {
+    Net,
+    Bank,
+    Line,
+}
