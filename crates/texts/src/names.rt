@@ -2,6 +2,8 @@
 ghost use mathlib.Core.Path.{_≡_};
 ghost use mathlib.Core.List.{map};
 ghost use Prim.Native.Nat.{ℕ, _+_, _≤_, _<_};
+ghost use lib.ListN.{length};
+ghost use Rattle.std.specs.Options.{Cases as BySome};
 ghost use Rattle.formats.specs.Words.{is-new};
 ghost use Rattle.texts.specs.Nets.{part-of, found};
 ghost use Rattle.texts.specs.declared.net.Span.{Span};
@@ -45,7 +47,8 @@ pub fn part<'a>(text: &'a [u8], span: Span) -> &'a [u8]
 
 // The index of the first item whose name, as a part of the text, is `name`.
 pub fn find<N: Named>(items: &[N], text: &[u8], name: &[u8]) -> Option<usize>
-    ensures { λ r. ⌜ r ≡ found (map (λ x. part-of (now (text .entry)) (N·Named .title x)) (now (items .entry))) (now (name .entry)) ⌝ }
+    ensures value { λ r. ⌜ r ≡ found (map (λ x. part-of (now (text .entry)) (N·Named .title x)) (now (items .entry))) (now (name .entry)) ⌝ }
+    ensures within { λ r. ⌜ BySome r (Unit {0}) (λ i. i < length (now (items .entry))) ⌝ }
 {
     for (i, item) in items.iter().enumerate() {
         if same(part(text, item.name()), name) {

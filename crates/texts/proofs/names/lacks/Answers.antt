@@ -6,4 +6,4 @@ use Rattle.texts.proofs.Naming.{new-from-none}
 use Rattle.texts.proofs.names.lacks.Needs as need
 
 pub returns : need.returns
-returns g c = new-from-none (map (λ x. part-of (c .args .text .now) (g .N·Named .title x)) (c .args .items .now)) (c .args .name .now) (c .is-none .result) (ap isSome (sym (c .find .ensures)) ∙ c .is-none .ensures)
+returns g c = new-from-none (map (λ x. part-of (c .args .text .now) (g .N·Named .title x)) (c .args .items .now)) (c .args .name .now) (c .is-none .result) (ap isSome (sym (c .find .ensures .value)) ∙ c .is-none .ensures)
