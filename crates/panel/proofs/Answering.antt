@@ -23,8 +23,8 @@ use Rattle.formats.proofs.Bridges.{lines-at, lines-end}
 use Rattle.formats.proofs.Pieces.{fields-some}
 use Rattle.texts.specs.declared.net.Place.{Place}
 use Rattle.texts.specs.declared.net.NetText.{NetText}
-use Rattle.texts.specs.Nets.{place-of, net-of, found}
-use Rattle.texts.proofs.Naming.{place-titles, places-of}
+use Rattle.texts.specs.Nets.{place-of, net-of, place-titles, found}
+use Rattle.texts.proofs.Naming.{places-of}
 use Rattle.panel.specs.Prints.{no-line}
 use Rattle.panel.specs.Run.{nowhere, free-of, free-named, answer, answers, ran, printed-with, printed}
 

@@ -20,7 +20,7 @@ use Rattle.formats.specs.NetText.{names, place-names, move-names}
 use Rattle.texts.specs.declared.net.Place.{Place}
 use Rattle.texts.specs.declared.net.Move.{Move}
 use Rattle.texts.specs.declared.net.NetText.{NetText}
-use Rattle.texts.specs.Nets.{part-of, place-of, move-of, net-of, found}
+use Rattle.texts.specs.Nets.{part-of, place-of, move-of, net-of, place-titles, move-titles, found}
 
 -- ---- a part of a text, cut to the text
 pub clamped : (bs : List ℕ) (s n st ln : ℕ) → st ≡ min s (length bs) → ln ≡ min n (length bs - st) → take (st + ln - st) (drop st bs) ≡ take n (drop s bs)
@@ -109,12 +109,6 @@ new-append (m ∷ ms) ns n = go (not (sameBytes m n)) (new-append ms ns n)
 pub map-map : {X Y Z : Type 0} (g : Y → Z) (f : X → Y) (xs : List X) → map g (map f xs) ≡ map (λ x. g (f x)) xs
 map-map g f [] = refl
 map-map g f (x ∷ xs) = ap (λ zs. g (f x) ∷ zs) (map-map g f xs)
-
-abbrev pub place-titles : List ℕ → NetText → List (List ℕ)
-place-titles bs x = map (λ (p : Place). part-of bs (p .name)) (vec-items (x .places))
-
-abbrev pub move-titles : List ℕ → NetText → List (List ℕ)
-move-titles bs x = map (λ (m : Move). part-of bs (m .name)) (vec-items (x .moves))
 
 pub places-of : (bs : List ℕ) (x : NetText) → place-names (net-of bs x) ≡ place-titles bs x
 places-of bs x = map-map (λ (p : value.Place). p .name) (place-of bs) (vec-items (x .places))

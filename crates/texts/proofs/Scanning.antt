@@ -11,7 +11,7 @@ use Rattle.std.specs.declared.option.Option.{Option}
 use Rattle.std.specs.declared.option.Option.the-variants.{Some, None}
 use Rattle.std.specs.shelf.Lists.{leading}
 use Rattle.std.proofs.shelf.Lists.{at-drop-more, at-drop-all, take-rest}
-use Rattle.std.proofs.shelf.Tests.{and-left, le-leb, false≢true}
+use Rattle.std.proofs.shelf.Tests.{and-left, false≢true}
 use lib.Dec.{leb}
 use Rattle.formats.specs.Words.{is-letter, is-name, all}
 use Rattle.texts.specs.Numbers.{is-word}
@@ -37,15 +37,9 @@ power-more v d i h small = omega (arith, ap (λ (k : ℕ). 10 ^ k) (add-one i), 
 pub power-most : (i : ℕ) → i ≤ 6 → 10 ^ i ≤ 1000000
 power-most i h = pow-le-pow-right (omega arith) h
 
--- a letter with few bytes after it is a name if those are letters or digits
-pub name-rest : (f : List ℕ) → is-letter (getD f 0 0) ≡ true → length (take (length f - 1) (drop 1 f)) ≤ 11 → all is-word (take (length f - 1) (drop 1 f)) ≡ is-name f
-name-rest [] e few = absurd (false≢true e)
-name-rest (b ∷ bs) e few =
-    let rest : take (length (b ∷ bs) - 1) bs ≡ bs = take-rest (b ∷ bs) 1 in
-    ap (all is-word) rest ∙ sym (grown (is-letter b) e (all is-word bs) (leb (length bs) 11) (le-leb _ _ (omega (arith, ap length rest))))
-  where
-    grown : (l : Bool) → l ≡ true → (w s : Bool) → s ≡ true → (l && (w && s)) ≡ w
-    grown true e true true q = refl
-    grown true e false s q = refl
-    grown true e true false q = absurd (false≢true q)
-    grown false e w s q = absurd (false≢true e)
+-- a letter with a tail is a name
+pub name-rest : (f : List ℕ) (r : Bool) → is-letter (getD f 0 0) ≡ true → r ≡ (all is-word (take (length f - 1) (drop 1 f)) && leb (length (take (length f - 1) (drop 1 f))) 11) → r ≡ is-name f
+name-rest [] r e q = absurd (false≢true e)
+name-rest (b ∷ bs) r e q =
+    q ∙ ap (λ (t : List ℕ). all is-word t && leb (length t) 11) (take-rest (b ∷ bs) 1)
+    ∙ sym (ap (λ (l : Bool). l && (all is-word bs && leb (length bs) 11)) e)

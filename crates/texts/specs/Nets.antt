@@ -2,6 +2,7 @@
 --   part-of bs s     the bytes of the span s of the text bs
 --   place-of, move-of, arc-of, net-of    the value of a place, a move, an arc and a whole net that was read from the text bs
 --   checked cs k v   v, unless one of the checks cs fails on line k
+--   place-titles, move-titles    the names of a net's places and moves
 --   found ns n       the index of the name n in the names ns, if one of them is n
 use Prim.Native.Nat.{ℕ}
 use mathlib.Core.Bool.{cond}
@@ -39,6 +40,13 @@ arc-of a = record { place = a .place; move = a .transition; take = a .take; give
 
 abbrev pub net-of : List ℕ → NetText → value.NetText
 net-of bs n = value.net (n .kind) (map (place-of bs) (vec-items (n .places))) (map (move-of bs) (vec-items (n .moves))) (map arc-of (vec-items (n .arcs)))
+
+-- the names of the places and of the moves
+abbrev pub place-titles : List ℕ → NetText → List (List ℕ)
+place-titles bs n = map (λ (p : Place). part-of bs (p .name)) (vec-items (n .places))
+
+abbrev pub move-titles : List ℕ → NetText → List (List ℕ)
+move-titles bs n = map (λ (m : Move). part-of bs (m .name)) (vec-items (n .moves))
 
 abbrev pub found : List (List ℕ) → List ℕ → Option ℕ
 found ns n = cond (is-known ns n) (Some (index-of ns n)) None

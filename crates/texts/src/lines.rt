@@ -2,6 +2,7 @@
 ghost use mathlib.Core.Path.{_≡_};
 ghost use mathlib.Core.List.{[], _∷_};
 ghost use Prim.Native.Nat.{ℕ, _+_, _≤_, _<_};
+ghost use lib.Dec.{eqb};
 ghost use lib.ListN.{length};
 ghost use Rattle.std.specs.Options.{mapped};
 ghost use Rattle.formats.specs.Words.{is-allowed, fields};
@@ -19,6 +20,12 @@ use model::refusal::Refusal;
 // The most bytes that a text may have.
 pub const TEXT_SIZE: usize = 16_384;
 
+fn is_newline(b: u8) -> bool
+    ensures { λ r. ⌜ r ≡ eqb b 10 ⌝ }
+{
+    b == b'\n'
+}
+
 // A text has at least one byte, at most `TEXT_SIZE`, and ends in a newline.
 fn is_text(text: &[u8]) -> bool
     ensures { λ r. ⌜ r ≡ is-text (now (text .entry)) ⌝ }
@@ -26,7 +33,7 @@ fn is_text(text: &[u8]) -> bool
     if text.is_empty() || text.len() > TEXT_SIZE {
         return false;
     }
-    text[text.len() - 1] == b'\n'
+    is_newline(text[text.len() - 1])
 }
 
 fn is_allowed(b: u8) -> bool

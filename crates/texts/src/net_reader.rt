@@ -140,12 +140,18 @@ fn read_plant(line: &[u8], at: At) -> Result<Kind, TextFault>
     }
 }
 
+fn is_single(place: &Place) -> bool
+    ensures { λ r. ⌜ r ≡ eqb (now (place .entry) .limit) 1 ⌝ }
+{
+    place.limit == 1
+}
+
 // Whether all places have the limit 1.
 fn all_single(places: &[Place]) -> bool
     ensures { λ r. ⌜ ((bs : List ℕ) → r ≡ all (λ (p : said.Place). eqb (p .limit) 1) (map (place-of bs) (now (places .entry)))) ⌝ }
 {
     for place in places {
-        if place.limit != 1 {
+        if !is_single(place) {
             return false;
         }
     }

@@ -6,15 +6,15 @@ ghost use Prim.Native.Nat.{ℕ, _+_, _^_, _≤_, _<_};
 ghost use lib.Chars.{codes};
 ghost use lib.Dec.{ltb};
 ghost use lib.ListN.{length};
-ghost use Rattle.std.specs.Of.Vec.{vec-items};
+ghost use Rattle.std.specs.Of.Vec.{vec-items, vec-len};
 ghost use Rattle.std.specs.shelf.Text.{sameBytes};
 ghost use Rattle.model.specs.declared.refusal.Refusal.the-variants.{Field};
 ghost use Rattle.model.specs.Sizes.{most-places, most-moves};
 ghost use Rattle.formats.specs.Words.{is-numeral, value, is-new, index-of, none};
-ghost use Rattle.formats.specs.Texts.{check};
-ghost use Rattle.formats.specs.NetText.{names, place-names, move-names};
+ghost use Rattle.formats.specs.Texts.{check, fault};
+ghost use Rattle.formats.specs.NetText.{place-names, move-names};
 ghost use Rattle.formats.specs.ReadNet.{name-checks, known-checks, kind-checks, place-line-checks, count-checks, place-checks, move-line-checks, letter-checks, move-checks, weight-checks, pair-checks, arc-checks, kind-of, is-net, is-new-pair};
-ghost use Rattle.texts.specs.Nets.{span, part-of, arc-of, net-of, checked};
+ghost use Rattle.texts.specs.Nets.{span, part-of, arc-of, net-of, place-titles, move-titles, checked};
 use crate::at::At;
 use crate::names::MoveNamed;
 use crate::names::Named;
@@ -44,6 +44,17 @@ const COUNT_DIGITS: usize = 3;
 const ARC_DIGITS: usize = 1;
 
 impl At {
+    // A refusal on this line.
+    fn fault(self, refusal: Refusal, byte: usize) -> TextFault
+        ensures { λ r. ⌜ r ≡ fault refusal (self .line) byte ⌝ }
+    {
+        TextFault {
+            refusal,
+            line: self.line,
+            byte,
+        }
+    }
+
     // Refuses, at `byte`, unless the test holds.
     fn check(self, holds: bool, refusal: Refusal, byte: usize) -> Result<(), TextFault>
         ensures { λ r. ⌜ r ≡ checked (check holds refusal byte ∷ []) (self .line) tt ⌝ }
@@ -51,11 +62,7 @@ impl At {
         if holds {
             Ok(())
         } else {
-            Err(TextFault {
-                refusal,
-                line: self.line,
-                byte,
-            })
+            Err(self.fault(refusal, byte))
         }
     }
 
@@ -66,11 +73,7 @@ impl At {
     {
         match number(field, digits) {
             Some(n) => Ok(n),
-            None => Err(TextFault {
-                refusal: Refusal::Field,
-                line: self.line,
-                byte,
-            }),
+            None => Err(self.fault(Refusal::Field, byte)),
         }
     }
 
@@ -87,11 +90,7 @@ impl At {
         self.check(is_name(field), Refusal::Field, byte)?;
         match find(items, text, field) {
             Some(i) => Ok(i),
-            None => Err(TextFault {
-                refusal: Refusal::NameUnknown,
-                line: self.line,
-                byte,
-            }),
+            None => Err(self.fault(Refusal::NameUnknown, byte)),
         }
     }
 
@@ -138,7 +137,7 @@ impl At {
 
 // Whether neither a place nor a move has the name.
 fn is_new(net: &NetText, text: &[u8], name: &[u8]) -> bool
-    ensures { λ r. ⌜ r ≡ is-new (names (net-of (now (text .entry)) (now (net .entry)))) (now (name .entry)) ⌝ }
+    ensures { λ r. ⌜ r ≡ (is-new (place-titles (now (text .entry)) (now (net .entry))) (now (name .entry)) && is-new (move-titles (now (text .entry)) (now (net .entry))) (now (name .entry))) ⌝ }
 {
     lacks(&net.places, text, name) && lacks(&net.moves, text, name)
 }
@@ -160,11 +159,7 @@ pub(crate) fn read_kind(field: &[u8], at: At, byte: usize) -> Result<Kind, TextF
     } else if same(field, b"line") {
         Ok(Kind::Line)
     } else {
-        Err(TextFault {
-            refusal: Refusal::Field,
-            line: at.line,
-            byte,
-        })
+        Err(at.fault(Refusal::Field, byte))
     }
 }
 
@@ -189,7 +184,7 @@ fn before_moves(net: &NetText) -> bool
 
 // Whether there may be one more place.
 fn place_fits(net: &NetText) -> bool
-    ensures { λ r. ⌜ ((bs : List ℕ) → r ≡ ltb (length (net-of bs (now (net .entry)) .places)) most-places) ⌝ }
+    ensures { λ r. ⌜ r ≡ ltb (vec-len (now (net .entry) .places)) most-places ⌝ }
 {
     net.places.len() < MOST_PLACES
 }
@@ -250,7 +245,7 @@ fn before_arcs(net: &NetText) -> bool
 
 // Whether there may be one more move.
 fn move_fits(net: &NetText) -> bool
-    ensures { λ r. ⌜ ((bs : List ℕ) → r ≡ ltb (length (net-of bs (now (net .entry)) .moves)) most-moves) ⌝ }
+    ensures { λ r. ⌜ r ≡ ltb (vec-len (now (net .entry) .moves)) most-moves ⌝ }
 {
     net.moves.len() < MOST_MOVES
 }
@@ -272,11 +267,7 @@ fn read_letter(field: &[u8], at: At, byte: usize) -> Result<bool, TextFault>
     } else if same(field, b"u") {
         Ok(false)
     } else {
-        Err(TextFault {
-            refusal: Refusal::Field,
-            line: at.line,
-            byte,
-        })
+        Err(at.fault(Refusal::Field, byte))
     }
 }
 

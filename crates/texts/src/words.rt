@@ -1,9 +1,12 @@
 // Names, numbers and equal bytes.
 ghost use mathlib.Core.Path.{_≡_};
 ghost use Prim.Native.Nat.{ℕ, _+_, _≤_, _<_};
+ghost use mathlib.Core.Bool.{_&&_};
+ghost use lib.Dec.{leb};
 ghost use lib.ListN.{length, getD, take, drop};
 ghost use Rattle.std.specs.shelf.Lists.{leading};
 ghost use Rattle.std.specs.shelf.Text.{sameBytes};
+ghost use Rattle.model.specs.Sizes.{name-tail};
 ghost use Rattle.formats.specs.Words.{is-letter, is-digit, is-name, is-not, all};
 ghost use Rattle.texts.specs.Numbers.{is-word, digits-of, number-of};
 
@@ -56,6 +59,13 @@ fn all_word(bytes: &[u8]) -> bool
     true
 }
 
+// What may follow the first letter of a name.
+fn is_tail(rest: &[u8]) -> bool
+    ensures { λ r. ⌜ r ≡ (all is-word (now (rest .entry)) && leb (length (now (rest .entry))) name-tail) ⌝ }
+{
+    all_word(rest) && rest.len() <= 11
+}
+
 // Whether the field is a name: a letter, then up to 11 letters or digits.
 pub fn is_name(field: &[u8]) -> bool
     ensures { λ r. ⌜ r ≡ is-name (now (field .entry)) ⌝ }
@@ -63,10 +73,10 @@ pub fn is_name(field: &[u8]) -> bool
     let [first, rest @ ..] = field else {
         return false;
     };
-    if !is_letter(*first) || rest.len() > 11 {
+    if !is_letter(*first) {
         return false;
     }
-    all_word(rest)
+    is_tail(rest)
 }
 
 // The number that a few digits write; none where a byte is no digit.

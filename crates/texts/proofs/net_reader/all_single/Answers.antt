@@ -3,7 +3,6 @@ use mathlib.Core.Path.{refl, sym}
 use mathlib.Core.Bool.{Bool}
 use mathlib.Core.List.{List, map}
 use lib.Dec.{eqb}
-use Rattle.std.proofs.shelf.Tests.{eq-eqb, ne-eqb}
 use Rattle.formats.specs.NetText as said
 use Rattle.formats.specs.Words.{all}
 use Rattle.texts.specs.declared.net.Place.{Place}
@@ -18,11 +17,11 @@ is-single p = eqb (p .limit) 1
 abbrev singles : List ℕ → List Place → Bool
 singles bs ps = all (λ (p : said.Place). eqb (p .limit) 1) (map (place-of bs) ps)
 
-pub returns-then-place-ne1 : need.returns-then-place-ne1
-returns-then-place-ne1 c = λ bs. sym (each-stops is-single (singles bs) refl (λ _ _. refl) (c .args .places .now) (c .loop-place .place-index) no-place (c .loop-place-test .taken) (c .loop-place .inv bs) (ne-eqb _ 1 (c .if-place-ne1 .taken)))
+pub returns-then-not-is-single : need.returns-then-not-is-single
+returns-then-not-is-single c = λ bs. sym (each-stops is-single (singles bs) refl (λ _ _. refl) (c .args .places .now) (c .loop-place .place-index) no-place (c .loop-place-test .taken) (c .loop-place .inv bs) (sym (c .if-not-is-single .ensures tt)))
 
 pub loop-place-again : need.loop-place-again
-loop-place-again c = λ bs. each-goes is-single (singles bs) refl (λ _ _. refl) (c .args .places .now) (c .loop-place .place-index) no-place (c .loop-place-test .taken) (c .loop-place .inv bs) (eq-eqb _ 1 (c .if-place-ne1 .left))
+loop-place-again c = λ bs. each-goes is-single (singles bs) refl (λ _ _. refl) (c .args .places .now) (c .loop-place .place-index) no-place (c .loop-place-test .taken) (c .loop-place .inv bs) (sym (c .if-not-is-single .ensures tt))
 
 pub returns : need.returns
 returns c = λ bs. sym (each-ends is-single (singles bs) refl (λ _ _. refl) (c .args .places .now) (c .loop-place .place-index) (c .loop-place-test .left) (c .loop-place .inv bs))

@@ -1,9 +1,0 @@
-use mathlib.Core.Path.{sym, ap, _∙_}
-use Prim.Native.Nat.{ℕ}
-use lib.Dec.{ltb}
-use Rattle.texts.specs.Nets.{move-of}
-use Rattle.texts.proofs.Checking.{count-map}
-use Rattle.texts.proofs.read.move_fits.Needs as need
-
-pub returns : need.returns
-returns c = λ bs. ap (λ (n : ℕ). ltb n 32) (c .len .ensures ∙ sym (count-map (move-of bs) (c .args .net .now .moves)))
