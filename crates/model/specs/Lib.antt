@@ -1,2 +1,13 @@
 pub mod Refusals
 pub mod Sizes
+pub mod Net
+pub mod Plant
+pub mod Rule
+pub mod Working
+pub mod Rounds
+pub mod Layer
+pub mod Ledger
+pub mod Book
+pub mod Promise
+pub mod Laws
+pub mod Cases

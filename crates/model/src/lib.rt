@@ -1,2 +1,5 @@
-// What a reader must believe about a cell: so far, why a text or a call is refused.
+// What a reader must believe about a cell: nets, rules, layers, the ledger, the book and what is promised of them.
+pub mod cases;
+pub mod fault;
+pub mod laws;
 pub mod refusal;

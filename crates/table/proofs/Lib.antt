@@ -1,0 +1,4 @@
+pub mod Columns
+pub mod Firing
+pub mod Copying
+pub mod Making

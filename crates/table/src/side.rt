@@ -1,0 +1,6 @@
+// The two sides of an arc.
+#[derive(Clone, Copy)]
+pub enum Side {
+    Take,
+    Give,
+}
