@@ -11,7 +11,7 @@ use Rattle.model.proofs.SmallNets.{small-ranges}
 
 pub cases-hold : AsMarked marked-cases
 unfolding rounds-from
-cases-hold = (refl, (refl, (refl, (refl, (refl, (refl, (refl, (refl, (refl, (refl, (refl, tt)))))))))))
+cases-hold = (refl, (refl, (refl, (refl, (refl, (refl, (refl, (refl, (refl, (refl, (refl, (refl, (refl, tt)))))))))))))
 
 example-ranges : Ranges example-net
 example-ranges = small-ranges (5 ∷ 4 ∷ 9 ∷ []) (controllable-move (1 ∷ []) (0 ∷ 1 ∷ []) ∷ uncontrollable-move (0 ∷ 1 ∷ []) (0 ∷ 0 ∷ 1 ∷ []) ∷ controllable-move (0 ∷ 0 ∷ 1 ∷ []) (1 ∷ []) ∷ []) (lit≤ tt) (lit≤ tt) (lit≤ tt) (lit≤ tt) refl refl

@@ -164,6 +164,30 @@ out-takes k = small-net (5 ∷ 4 ∷ 9 ∷ []) (
 abbrev pub round-trip : Net
 round-trip = small-net (9 ∷ 9 ∷ 9 ∷ []) (uncontrollable-move (1 ∷ []) (0 ∷ 1 ∷ 1 ∷ []) ∷ uncontrollable-move (0 ∷ 1 ∷ []) (1 ∷ []) ∷ [])
 
+-- seven places, of which each of the first six has a move to all later ones, all uncontrollable: a rule on the seventh is
+-- worked in 63 rounds. Each further place with a move to the seventh adds a round
+abbrev pub falling-moves : List Move → List Move
+falling-moves more =
+    uncontrollable-move (1 ∷ []) (0 ∷ 1 ∷ 1 ∷ 1 ∷ 1 ∷ 1 ∷ 1 ∷ [])
+    ∷ uncontrollable-move (0 ∷ 1 ∷ []) (0 ∷ 0 ∷ 1 ∷ 1 ∷ 1 ∷ 1 ∷ 1 ∷ [])
+    ∷ uncontrollable-move (0 ∷ 0 ∷ 1 ∷ []) (0 ∷ 0 ∷ 0 ∷ 1 ∷ 1 ∷ 1 ∷ 1 ∷ [])
+    ∷ uncontrollable-move (0 ∷ 0 ∷ 0 ∷ 1 ∷ []) (0 ∷ 0 ∷ 0 ∷ 0 ∷ 1 ∷ 1 ∷ 1 ∷ [])
+    ∷ uncontrollable-move (0 ∷ 0 ∷ 0 ∷ 0 ∷ 1 ∷ []) (0 ∷ 0 ∷ 0 ∷ 0 ∷ 0 ∷ 1 ∷ 1 ∷ [])
+    ∷ uncontrollable-move (0 ∷ 0 ∷ 0 ∷ 0 ∷ 0 ∷ 1 ∷ []) (0 ∷ 0 ∷ 0 ∷ 0 ∷ 0 ∷ 0 ∷ 1 ∷ [])
+    ∷ more
+
+abbrev pub eighth-move : Move
+eighth-move = uncontrollable-move (0 ∷ 0 ∷ 0 ∷ 0 ∷ 0 ∷ 0 ∷ 0 ∷ 1 ∷ []) (0 ∷ 0 ∷ 0 ∷ 0 ∷ 0 ∷ 0 ∷ 1 ∷ [])
+
+abbrev pub ninth-move : Move
+ninth-move = uncontrollable-move (0 ∷ 0 ∷ 0 ∷ 0 ∷ 0 ∷ 0 ∷ 0 ∷ 0 ∷ 1 ∷ []) (0 ∷ 0 ∷ 0 ∷ 0 ∷ 0 ∷ 0 ∷ 1 ∷ [])
+
+abbrev pub nine-places : List ℕ
+nine-places = 9 ∷ 9 ∷ 9 ∷ 9 ∷ 9 ∷ 9 ∷ 9 ∷ 9 ∷ 9 ∷ []
+
+abbrev pub seventh : Rule
+seventh = rule-of (pos 0 ∷ pos 0 ∷ pos 0 ∷ pos 0 ∷ pos 0 ∷ pos 0 ∷ pos 1 ∷ []) (pos 5)
+
 -- a line of two places with limits 1, the first full
 abbrev pub line : Net
 line = small-net (1 ∷ 1 ∷ []) (controllable-move [] (1 ∷ []) ∷ controllable-move (1 ∷ []) (0 ∷ 1 ∷ []) ∷ controllable-move (0 ∷ 1 ∷ []) [] ∷ [])
@@ -193,6 +217,12 @@ marked-cases =
     ∷ record { came = works (out-takes 0) (rule-of (pos 0 ∷ pos 0 ∷ pos 1 ∷ []) (pos 3)); must = refused 20 None ∷ [] }
     -- R ≤ 5 is never worked on the round trip
     ∷ record { came = works round-trip (rule-of (pos 0 ∷ pos 0 ∷ pos 1 ∷ []) (pos 5)); must = refused 22 None ∷ [] }
+    -- a rule that is worked after exactly 64 rounds is worked; one that would take 65 is not
+    ∷ record {
+      came = works (small-net nine-places (falling-moves (eighth-move ∷ []))) seventh;
+      must = worked-to (pos 32 ∷ pos 16 ∷ pos 8 ∷ pos 4 ∷ pos 2 ∷ pos 1 ∷ pos 1 ∷ pos 1 ∷ pos 0 ∷ []) (pos 5) 64 ∷ [];
+    }
+    ∷ record { came = works (small-net nine-places (falling-moves (eighth-move ∷ ninth-move ∷ []))) seventh; must = refused 22 None ∷ [] }
     -- A ≥ 4 does not hold at the start; A ≥ 3 is set, and leaves no tokens
     ∷ record { came = sets example-net example-free (rule-of (negsuc 0 ∷ []) (negsuc 3)); must = refused 23 None ∷ [] }
     ∷ record { came = sets-and-shows example-net example-free (rule-of (negsuc 0 ∷ []) (negsuc 2)); must = passed ∷ tokens 0 ∷ [] }

@@ -1,0 +1,4 @@
+pub mod Words
+pub mod Ranging
+pub mod Calls
+pub mod Building
