@@ -1,21 +1,19 @@
 -- A bank from records: the loops over them, and the net and tokens of what is made.
-use Prim.Native.Nat.{ℕ, _+_, _%_, _^_, _≤_, _<_}
-use mathlib.Core.Path.{_≡_, refl, sym, _∙_, ap, subst}
+use Prim.Native.Nat.{ℕ, _^_, _<_}
+use mathlib.Core.Path.{_≡_, sym, _∙_, ap}
 use mathlib.Core.Logic.{⊎-elim}
-use mathlib.Core.Bool.{Bool, true, false, cond, _&&_}
+use mathlib.Core.Bool.{Bool, cond, _&&_}
 use mathlib.Core.List.{List}
 use native.Mathlib.Omega.{arith}
-use lib.Dec.{ltb, eqb}
-use lib.ListN.{length, getD}
-use borrow.Author.Count.{below-none, below-more}
+use lib.Dec.{ltb}
+use lib.ListN.{length}
 use Rattle.texts.specs.declared.net.Place.{Place}
 use Rattle.texts.specs.declared.net.Move.{Move}
-use Rattle.texts.specs.Reading.{no-place, no-move}
-use Rattle.std.proofs.shelf.Tests.{cases-lt, cond-true, cond-false, lt-ltb, le-ltb, eqb-true, eq-eqb, ne-eqb}
+use Rattle.texts.specs.Reading.{no-place}
+use Rattle.std.proofs.shelf.Tests.{cases-lt, le-ltb}
 use Rattle.std.proofs.shelf.Lists.{getD-past}
-use Rattle.model.specs.Net.{Net}
 use Rattle.bank.specs.Banks.{bit, letter, next-place, arc, bank-net}
-use Rattle.bank.specs.Making.{tokens-at, limit-at, letter-at, Single, LettersRead}
+use Rattle.bank.specs.Making.{tokens-at, letter-at, Single, LettersRead}
 use Rattle.bank.proofs.Words.{bit-beyond}
 
 -- the word w has the tokens of the first i places

@@ -1,22 +1,21 @@
 -- What a bank answers, and its tokens after: each move has one place to look at.
-use Prim.Native.Nat.{ℕ, zero, suc, _+_, _-_, _≤_, _<_, _^_}
+use Prim.Native.Nat.{ℕ, zero, suc, _+_, _-_, _≤_, _<_}
 use mathlib.Core.Path.{_≡_, refl, sym, _∙_, ap, subst}
 use mathlib.Core.Logic.{⊎-elim}
-use mathlib.Core.Bool.{Bool, true, false, cond, _&&_}
+use mathlib.Core.Bool.{Bool, true, false, cond}
 use native.Mathlib.Omega.{arith}
 use native.Mathlib.Numerals.{add-one}
 use lib.Dec.{ltb, eqb}
-use Rattle.std.specs.declared.option.Option.{Option}
 use Rattle.std.specs.declared.option.Option.the-variants.{Some, None}
-use Rattle.std.specs.declared.result.Result.the-variants.{Ok, Err}
+use Rattle.std.specs.declared.result.Result.the-variants.{Err}
 use Rattle.std.proofs.shelf.Ways.{tells}
 use Rattle.std.proofs.shelf.Tests.{cases-lt, cases-eq, cond-true, cond-false, lt-ltb, le-ltb, eq-eqb, ne-eqb, both-ways}
 use Rattle.model.specs.declared.refusal.Refusal.the-variants.{NoMove, Short, OverLimit}
 use Rattle.model.specs.Net.{Net}
-use Rattle.model.specs.Plant.{Answer, accepted, fault-of, fault-at, lowest, refuse-at, refuse-unless, _else-by_, known, short-place, over-place, begin-answer, finish-answer, back-answer, begun, finished, gone-back}
+use Rattle.model.specs.Plant.{Answer, accepted, fault-of, fault-at, lowest, refuse-at, refuse-unless, _else-by_, known, short-place, over-place, begin-answer, begun}
 use Rattle.plant.proofs.Lowest.{Sought, sought-first, sought-on, found-here, found-nowhere}
 use Rattle.plant.proofs.Answering.{refused-at}
-use Rattle.bank.specs.Banks.{bit, next-place, arc, bank-net, ground-fault}
+use Rattle.bank.specs.Banks.{bit, arc, bank-net, ground-fault}
 use Rattle.bank.proofs.Words.{bit-most, bit-zero-from}
 use Rattle.bank.proofs.Ranging.{limit-of}
 

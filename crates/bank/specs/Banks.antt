@@ -8,7 +8,7 @@
 --   tokens-of    the tokens at each place of a bank
 --   ground-fault the fault of the move t at the ground place p
 use Prim.Native.Nat.{ℕ, _+_, _*_, _/_, _%_, _^_}
-use mathlib.Core.Bool.{Bool, true, false, cond, _&&_}
+use mathlib.Core.Bool.{Bool, cond, _&&_}
 use lib.Dec.{ltb, eqb}
 use Rattle.std.specs.declared.option.Option.the-variants.{Some}
 use Rattle.model.specs.declared.refusal.Refusal.{Refusal}

@@ -1,12 +1,12 @@
 // What moves in a bank. Each call looks at one place, by its bit.
 ghost use mathlib.Core.Path.{_≡_};
 ghost use mathlib.Core.Bool.{true};
-ghost use Prim.Native.Nat.{ℕ, _^_, _<_};
-ghost use Rattle.std.specs.declared.result.Result.the-variants.{Err};
+ghost use Prim.Native.Nat.{_^_, _<_};
 ghost use Rattle.model.specs.declared.refusal.Refusal.the-variants.{NoMove};
 ghost use Rattle.model.specs.Plant.{accepted, fault-of, short-place, over-place, begin-answer, finish-answer, back-answer, begun, finished, gone-back};
 ghost use Rattle.bank.specs.Banks.{bit, net-of, tokens-of, ground-fault};
 use crate::bank::Bank;
+use crate::bits::bit_at;
 use crate::bits::has_bit;
 use crate::bits::with_bit;
 use crate::bits::without_bit;
@@ -17,6 +17,7 @@ use model::fault::Spot;
 use model::refusal::Refusal;
 use plant::plant::Plant;
 
+// The fault of a move that is missing.
 fn no_move(t: usize) -> Fault
     ensures { λ r. ⌜ r ≡ fault-of NoMove t ⌝ }
 {
@@ -27,6 +28,7 @@ fn no_move(t: usize) -> Fault
     }
 }
 
+// The fault of the move `t` at the place `p`.
 fn fault_at(refusal: Refusal, t: usize, p: usize) -> Fault
     ensures { λ r. ⌜ r ≡ ground-fault refusal t p ⌝ }
 {
@@ -111,8 +113,8 @@ pub impl Plant for Bank as BankPlant {
     ghost tokens = { tokens-of };
 
     fn free(&self, p: usize) -> u32 {
-        if p < self.count && has_bit(self.tokens, p) {
-            1
+        if p < self.count {
+            bit_at(self.tokens, p)
         } else {
             0
         }

@@ -1,6 +1,5 @@
 // The reading part of a bank.
 ghost use mathlib.Core.Path.{_≡_};
-ghost use Prim.Native.Nat.{ℕ};
 ghost use Rattle.bank.specs.Banks.{next-place, net-of};
 use crate::bank::Bank;
 use crate::bits::has_bit;

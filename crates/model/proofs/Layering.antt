@@ -11,7 +11,7 @@ use borrow.Author.Tests.{eqb-true, eqb-false, eq-eqb, ne-eqb, ltb-true, ltb-fals
 use Rattle.model.specs.Sizes.{most-arc, most-limit, most-control-arc, control-limit, most-all-places}
 use Rattle.model.specs.Net.{Net, Ranges, signed-sum}
 use Rattle.model.specs.Rule.{weighted-free}
-use Rattle.model.specs.Layer.{Row, is-shut, own-place, next-layer, masked-take, masked-give, layer-net, layer-free, change-row, Pile, pile-net, pile-free, row-count, with-free}
+use Rattle.model.specs.Layer.{Row, is-shut, own-place, next-layer, masked-take, masked-give, layer-net, layer-free, change-row}
 use Rattle.model.specs.Laws.{SameGround}
 use Rattle.model.proofs.Sums.{signed-sum-ext}
 
@@ -209,54 +209,3 @@ changed-row f base a size rows r new i l = go (eqb i (a + r)) refl
         on true d true = ap (λ y. f (cond y new (rows (i - a)))) (ne-eqb (i - a) r (λ q. eqb-false i (a + r) e (back i a r (leb-true a i d) q)))
         on true d false = refl
         on false d y = refl
-
--- ---- tokens changed
-module _ (p : Pile) (f : ℕ → ℕ) (same : (i : ℕ) → pile-net p .places ≤ i → f i ≡ pile-free p i) where
-  abbrev s : ℕ
-  s = row-count (p .top)
-
-  abbrev a : ℕ
-  a = p .below .places
-
-  abbrev old : ℕ → ℕ
-  old i = p .rows (i - a) .free
-
-  -- at a place that is neither below nor a row's own
-  outside : (i : ℕ) → a ≤ i → not (is-shut s (p .below)) && own-place s (p .below) i ≡ false → pile-net p .places ≤ i
-  outside i l e = go (is-shut s (p .below)) e
-    where
-      go : (b : Bool) → not b && own-place s (p .below) i ≡ false → cond b (p .below) (open-net s (p .below) (p .rows)) .places ≤ i
-      go true k = l
-      go false k = on (leb a i) refl (ltb i (a + s)) refl k
-        where
-          on : (x : Bool) → leb a i ≡ x → (y : Bool) → ltb i (a + s) ≡ y → x && y ≡ false → a + s ≤ i
-          on x d false e k = ltb-false i (a + s) e
-          on true d true e k = absurd (subst T k tt)
-          on false d true e k = absurd (omega (arith, leb-false a i d))
-
-  in-row : (i : ℕ) (z : Bool) → z && own-place s (p .below) i ≡ true → cond (z && ltb (i - a) s) (f (a + (i - a))) (old i) ≡ f i
-  in-row i false e = absurd (subst T (sym e) tt)
-  in-row i true e = go (leb a i) refl (ltb i (a + s)) refl e
-    where
-      low : (i a s : ℕ) → a ≤ i → i < a + s → i - a < s
-      low i a s h k = omega arith
-
-      whole : (i a : ℕ) → a ≤ i → a + (i - a) ≡ i
-      whole i a h = omega arith
-
-      go : (x : Bool) → leb a i ≡ x → (y : Bool) → ltb i (a + s) ≡ y → x && y ≡ true → cond (ltb (i - a) s) (f (a + (i - a))) (old i) ≡ f i
-      go true d true k e = ap (λ z. cond z (f (a + (i - a))) (old i)) (lt-ltb (i - a) s (low i a s (leb-true a i d) (ltb-true i (a + s) k))) ∙ ap f (whole i a (leb-true a i d))
-      go true d false k e = absurd (subst T (sym e) tt)
-      go false d y k e = absurd (subst T (sym e) tt)
-
-  pub with-free-is : (i : ℕ) → pile-free (with-free p f) i ≡ f i
-  with-free-is i = go (not (is-shut s (p .below)) && own-place s (p .below) i) refl
-    where
-      rest : (b : Bool) → not (is-shut s (p .below)) && own-place s (p .below) i ≡ false → ltb i a ≡ b → cond b (f i) (p .below-free i) ≡ f i
-      rest true e k = refl
-      rest false e k = sym (same i (outside i (ltb-false i a k) e) ∙ ap (λ z. cond z (old i) (p .below-free i)) e)
-
-      go : (z : Bool) → not (is-shut s (p .below)) && own-place s (p .below) i ≡ z →
-          cond z (cond (not (is-shut s (p .below)) && ltb (i - a) s) (f (a + (i - a))) (old i)) (cond (ltb i a) (f i) (p .below-free i)) ≡ f i
-      go true e = in-row i (not (is-shut s (p .below))) e
-      go false e = rest (ltb i a) e refl

@@ -8,12 +8,13 @@ pub mod Moving
 pub mod Setting
 pub mod Placing
 pub mod Layering
+pub mod LayerCalls
 pub mod TopRow
 pub mod Building
 pub mod Reading
 pub mod Running
-pub mod LayerCalls
 pub mod JustSet
+pub mod CallsFire
 pub mod Exact
 pub mod StateEquation
 pub mod RowsStand

@@ -16,7 +16,7 @@ use Rattle.model.specs.Net.{Net, incidence}
 use Rattle.model.specs.Plant.{Answer, accepted, fault-of, fault-at, setting-fault, refuse-unless, _else-by_, known, begin-answer, begun, finish-answer, finished, back-answer, gone-back}
 use Rattle.model.specs.Rule.{Rule, Worked}
 use Rattle.model.specs.Working.{work}
-use Rattle.model.specs.Layer.{Pile, pile-net, pile-free, with-free, row-count, row-place, board-answer, InForce, Built}
+use Rattle.model.specs.Layer.{Pile, pile-net, pile-free, rows-begun, pile-begun, pile-finished, pile-gone-back, row-count, row-place, board-answer, InForce, Built}
 use Rattle.model.specs.Ledger.{Ledger, Call, grant, commit, cancel, report, admit, new-ledger, net-under, free-under, open-count, reserved, crowded, crowded-place, room-answer, grant-checks, is-open, plus-one, minus-one, set-by, answer, done, run, answers}
 use Rattle.model.specs.Book.{Book, new-book, entered, noted, book-from, book-of, acceptances}
 use Rattle.model.specs.Promise.{Upheld, Promise}
@@ -28,7 +28,8 @@ use Rattle.model.proofs.Moving as moving
 use Rattle.model.proofs.Moving.{after}
 use Rattle.model.proofs.Setting.{set-net, set-same}
 use Rattle.model.proofs.Placing.{other-book}
-use Rattle.model.proofs.Layering.{layer-same, with-free-is}
+use Rattle.model.proofs.Layering.{layer-same}
+use Rattle.model.proofs.LayerCalls.{layer-moves}
 use Rattle.model.proofs.TopRow.{net-set, set-low, set-steady, set-shape}
 use Rattle.model.proofs.Building.{Good, board-says, built-good}
 use Rattle.model.proofs.Reading.{upheld}
@@ -84,19 +85,10 @@ module _ (n : Net) (first : ℕ) (l : Ledger) (b : Book) (r : Ready n first l b)
   abbrev g : ℕ → ℕ
   g = l .opened
 
+  abbrev size : ℕ
+  size = row-count (l .pile .top)
+
   -- ---- tokens moved
-  nothing : (i t : ℕ) → m .places ≤ i → (m .take i t ≡ 0) × (m .give i t ≡ 0)
-  nothing i t k = (r .steady .ranges .no-place i t k .0, r .steady .ranges .no-place i t k .1)
-
-  shape-kept : (f : ℕ → ℕ) → Shape (with-free (l .pile) f) (b .rules)
-  shape-kept f = record { based = r .shape .based; there = r .shape .there; settled = r .shape .settled }
-
-  less-none : (x a y : ℕ) → x ≡ a - y → y ≡ 0 → x ≡ a
-  less-none x a y e z = omega arith
-
-  more-none : (x a y : ℕ) → x ≡ a + y → y ≡ 0 → x ≡ a
-  more-none x a y e z = omega arith
-
   -- the book's changes are those of the ledger's net
   book-after : (free′ g′ : ℕ → ℕ) (t : ℕ) → Steady m free′ g′ (after m (b .q) t) (b .rules) → Steady m free′ g′ (λ p. b .q p +ℤ incidence n p t) (b .rules)
   book-after free′ g′ t s = other-book m free′ g′ (after m (b .q) t) (λ p. b .q p +ℤ incidence n p t) (b .rules) (λ p k. ap (λ x. b .q p +ℤ x) (same-incidence n m (r .same) p t k)) s
@@ -108,41 +100,41 @@ module _ (n : Net) (first : ℕ) (l : Ledger) (b : Book) (r : Ready n first l b)
       let e₃ = else-ok (known m t) (refuse-unless (m .controllable t) (fault-of Uncontrollable t) else-by refuse-unless (ltb (open-count m g) most-open) (fault-of TooManyOpen t)) (e₁ .0) in
       let e₄ = else-ok (refuse-unless (m .controllable t) (fault-of Uncontrollable t)) (refuse-unless (ltb (open-count m g) most-open) (fault-of TooManyOpen t)) (e₃ .1) in
       let k : t < m .moves = known-says m t (e₃ .0) in
-      let tokens : (i : ℕ) → pile-free (with-free (l .pile) (begun m free t)) i ≡ begun m free t i = with-free-is (l .pile) (begun m free t) (λ i h. less-none (begun m free t i) (free i) (m .take i t) (begun-is m free t (e₂ .0) i) (nothing i t h .0)) in
+      let tokens : pile-free (pile-begun (l .pile) t) ≡ begun m free t = sym (layer-moves size (l .pile .below) (l .pile .below-free) (l .pile .rows) t .0 (e₂ .0)) in
       record {
         same = r .same;
         firsts = r .firsts;
         counted = ap (λ f. plus-one f t) (r .counted);
-        steady = moving.granted m free g (b .q) (b .rules) (r .steady) t k (pile-free (with-free (l .pile) (begun m free t))) (λ i. tokens i ∙ begun-is m free t (e₂ .0) i) (begin-says m free t k (e₂ .0))
+        steady = moving.granted m free g (b .q) (b .rules) (r .steady) t k (pile-free (pile-begun (l .pile) t)) (λ i. ap (λ f. f i) tokens ∙ begun-is m free t (e₂ .0) i) (begin-says m free t k (e₂ .0))
             (ltb-true (open-count m g) most-open (refuse-unless-ok (ltb (open-count m g) most-open) (fault-of TooManyOpen t) (e₄ .1))) (room-says m free g t (e₂ .1));
-        shape = shape-kept (begun m free t);
+        shape = record { based = r .shape .based; there = r .shape .there; settled = r .shape .settled };
       }
 
   after-commit : (t : ℕ) → answer l (commit t) ≡ Ok tt → Ready n first (done l (commit t)) (noted n first b (commit t))
   after-commit t e =
       let e₁ = else-ok (known m t) (is-open g t else-by finish-answer m free t) e in
       let e₂ = else-ok (is-open g t) (finish-answer m free t) (e₁ .1) in
-      let tokens : (i : ℕ) → pile-free (with-free (l .pile) (finished m free t)) i ≡ finished m free t i = with-free-is (l .pile) (finished m free t) (λ i h. more-none (finished m free t i) (free i) (m .give i t) (finished-is m free t (e₂ .1) i) (nothing i t h .1)) in
+      let tokens : pile-free (pile-finished (l .pile) t) ≡ finished m free t = sym (layer-moves size (l .pile .below) (l .pile .below-free) (l .pile .rows) t .1 (e₂ .1)) in
       record {
         same = r .same;
         firsts = r .firsts;
         counted = ap (λ f. minus-one f t) (r .counted);
-        steady = book-after (pile-free (with-free (l .pile) (finished m free t))) (minus-one g t) t
-            (moving.committed m free g (b .q) (b .rules) (r .steady) t (known-says m t (e₁ .0)) (pile-free (with-free (l .pile) (finished m free t))) (λ i. tokens i ∙ finished-is m free t (e₂ .1) i) (open-says g t (e₂ .0)));
-        shape = shape-kept (finished m free t);
+        steady = book-after (pile-free (pile-finished (l .pile) t)) (minus-one g t) t
+            (moving.committed m free g (b .q) (b .rules) (r .steady) t (known-says m t (e₁ .0)) (pile-free (pile-finished (l .pile) t)) (λ i. ap (λ f. f i) tokens ∙ finished-is m free t (e₂ .1) i) (open-says g t (e₂ .0)));
+        shape = record { based = r .shape .based; there = r .shape .there; settled = r .shape .settled };
       }
 
   after-cancel : (t : ℕ) → answer l (cancel t) ≡ Ok tt → Ready n first (done l (cancel t)) (noted n first b (cancel t))
   after-cancel t e =
       let e₁ = else-ok (known m t) (is-open g t else-by back-answer m free t) e in
       let e₂ = else-ok (is-open g t) (back-answer m free t) (e₁ .1) in
-      let tokens : (i : ℕ) → pile-free (with-free (l .pile) (gone-back m free t)) i ≡ gone-back m free t i = with-free-is (l .pile) (gone-back m free t) (λ i h. more-none (gone-back m free t i) (free i) (m .take i t) (gone-back-is m free t (e₂ .1) i) (nothing i t h .0)) in
+      let tokens : pile-free (pile-gone-back (l .pile) t) ≡ gone-back m free t = sym (layer-moves size (l .pile .below) (l .pile .below-free) (l .pile .rows) t .2 (e₂ .1)) in
       record {
         same = r .same;
         firsts = r .firsts;
         counted = ap (λ f. minus-one f t) (r .counted);
-        steady = moving.cancelled m free g (b .q) (b .rules) (r .steady) t (known-says m t (e₁ .0)) (pile-free (with-free (l .pile) (gone-back m free t))) (λ i. tokens i ∙ gone-back-is m free t (e₂ .1) i) (open-says g t (e₂ .0));
-        shape = shape-kept (gone-back m free t);
+        steady = moving.cancelled m free g (b .q) (b .rules) (r .steady) t (known-says m t (e₁ .0)) (pile-free (pile-gone-back (l .pile) t)) (λ i. ap (λ f. f i) tokens ∙ gone-back-is m free t (e₂ .1) i) (open-says g t (e₂ .0));
+        shape = record { based = r .shape .based; there = r .shape .there; settled = r .shape .settled };
       }
 
   after-report : (t : ℕ) → answer l (report t) ≡ Ok tt → Ready n first (done l (report t)) (noted n first b (report t))
@@ -151,19 +143,20 @@ module _ (n : Net) (first : ℕ) (l : Ledger) (b : Book) (r : Ready n first l b)
       let e₂ = else-ok (refuse-unless (not (m .controllable t)) (fault-of Controllable t)) (begin-answer m free t else-by room-answer m free g t) (e₁ .1) in
       let e₃ = else-ok (begin-answer m free t) (room-answer m free g t) (e₂ .1) in
       let k : t < m .moves = known-says m t (e₁ .0) in
-      let is : (i : ℕ) → finished m (begun m free t) t i ≡ free i - m .take i t + m .give i t = λ i. finished-is m (begun m free t) t (finish-after m free g t k (e₃ .0) (e₃ .1)) i ∙ ap (λ x. x + m .give i t) (begun-is m free t (e₃ .0) i) in
-      let tokens : (i : ℕ) → pile-free (with-free (l .pile) (finished m (begun m free t) t)) i ≡ finished m (begun m free t) t i = with-free-is (l .pile) (finished m (begun m free t) t) (λ i h. is i ∙ neither (free i) (m .take i t) (m .give i t) (nothing i t h .0) (nothing i t h .1)) in
+      let begins : pile-free (pile-begun (l .pile) t) ≡ begun m free t = sym (layer-moves size (l .pile .below) (l .pile .below-free) (l .pile .rows) t .0 (e₃ .0)) in
+      let ends : finish-answer m (begun m free t) t ≡ Ok tt = finish-after m free g t k (e₃ .0) (e₃ .1) in
+      let ends-here : finish-answer m (pile-free (pile-begun (l .pile) t)) t ≡ Ok tt = ap (λ f. finish-answer m f t) begins ∙ ends in
+      let tokens : pile-free (pile-finished (pile-begun (l .pile) t) t) ≡ finished m (begun m free t) t
+      = sym (layer-moves size (l .pile .below) (begun (l .pile .below) (l .pile .below-free) t) (rows-begun (l .pile .below) (l .pile .rows) t) t .1 ends-here) ∙ ap (λ f. finished m f t) begins in
+      let is : (i : ℕ) → finished m (begun m free t) t i ≡ free i - m .take i t + m .give i t = λ i. finished-is m (begun m free t) t ends i ∙ ap (λ x. x + m .give i t) (begun-is m free t (e₃ .0) i) in
       record {
         same = r .same;
         firsts = r .firsts;
         counted = r .counted;
-        steady = book-after (pile-free (with-free (l .pile) (finished m (begun m free t) t))) g t
-            (moving.reported m free g (b .q) (b .rules) (r .steady) t k (pile-free (with-free (l .pile) (finished m (begun m free t) t))) (λ i. tokens i ∙ is i) (begin-says m free t k (e₃ .0)) (room-says m free g t (e₃ .1)));
-        shape = shape-kept (finished m (begun m free t) t);
+        steady = book-after (pile-free (pile-finished (pile-begun (l .pile) t) t)) g t
+            (moving.reported m free g (b .q) (b .rules) (r .steady) t k (pile-free (pile-finished (pile-begun (l .pile) t) t)) (λ i. ap (λ f. f i) tokens ∙ is i) (begin-says m free t k (e₃ .0)) (room-says m free g t (e₃ .1)));
+        shape = record { based = r .shape .based; there = r .shape .there; settled = r .shape .settled };
       }
-    where
-      neither : (f a b : ℕ) → a ≡ 0 → b ≡ 0 → f - a + b ≡ f
-      neither f a b e k = omega arith
 
   -- ---- a row set
   none-open : open-count m g ≡ 0 → (t : ℕ) → g t ≡ 0

@@ -1,7 +1,9 @@
 -- The book of a list of calls: kept from the calls and whether each was accepted, and from nothing else of the ledger.
 --   Book           q, the marking of the ground places; v, the open grants of each move; and the rules in force
 --   new-book       the book of a new ledger
+--   entered        the rules with one more, if it could be worked
 --   noted          the book after an accepted call, over the net and the first row's place at the new ledger
+--   book-from      the book after a list of calls, from an earlier one
 --   book-of        the book of a list of calls
 --   acceptances    whether each answer of a list accepts
 use mathlib.Core.Bool.{Bool, cond}

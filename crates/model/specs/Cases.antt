@@ -1,7 +1,11 @@
 -- The marked cases: small plants, what is asked of each, and what must come of it.
 --   Move, small-net   a net by its table: the limits of its places, and each move with what it takes and gives
+--   nth, nth-move     the number or the move at an index; beyond the list 0, and a move without arcs
+--   controllable-move, uncontrollable-move   a move by what it takes and gives
 --   rule-of           a rule by its weights and its bound
 --   Outcome           what came of it: a worked rule, a call that passed, a refusal's number and place, or tokens at a place
+--   outcome-of        what came of an answer; working-of: of working a rule; outcomes-of: of a list of answers
+--   works, sets, sets-and-shows, calls   what comes of working a rule, of setting it on a monitor, of calls on a new ledger
 --   Case              what came of a case, and what must
 --   marked-cases      the list of cases
 --   AsMarked          each case of a list came out as it must

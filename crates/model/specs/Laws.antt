@@ -7,11 +7,15 @@
 --   JustSet         what a row is that has just been set
 --   FreshRow         what a new row is
 --   Ruled          a rule of the list stands at the place; BlankPlace: the place has neither arcs nor tokens
+--   Moved          a ledger after a call that moved tokens
 --   Overfills      (by the book) some choice of open grants, committed with the move, takes a ground place over its limit
+--   KeepsRules, HasRoom   (by the book) the move would break no rule in force, and overfill no ground place
+--   Admission      (by the book) what an admission asks for
 --   GrantAccepted, ReportAccepted, AdmitAccepted   when a call is accepted, exactly, by the book
+--   Apart          no two rules of the list are at one place
 --   RowsStand      a row is in use exactly while its rule is in the book, and no two rules are at one place
 --   Standing       what stays true of the net, the tokens and the arcs
---   fired          how often a list of calls has fired a move
+--   fires-once     how often an accepted call fires a move; fired: how often a list of calls has
 --   AfterEvery     a fact of the ledger and the book after every list of calls on a new ledger over every built pile
 use mathlib.Core.Path.{_≡_}
 use mathlib.Core.Bool.{Bool, true, false, cond, not}
@@ -34,7 +38,7 @@ use Rattle.model.specs.Rule.{Rule, Worked, weighted, weighted-free, raise}
 use Rattle.model.specs.Working.{divisor, rising, falls, changed, work}
 use Rattle.model.specs.Rounds.{Gcd, Round, WorkSays}
 use Rattle.model.specs.Layer.{Row, blank, is-shut, next-layer, layer-net, layer-free, rows-begin, rows-finish, rows-back, rows-begun, rows-finished, rows-gone-back, Pile, pile-net, pile-free, row-count, open-rows, row-place, with-rule, top-answer, InForce, Built}
-use Rattle.model.specs.Ledger.{Ledger, Call, grant, commit, cancel, report, admit, new-ledger, net-under, free-under, open-count, reserved, marking, room-answer, answer, next, run, answers}
+use Rattle.model.specs.Ledger.{Ledger, Call, grant, commit, cancel, report, admit, new-ledger, net-under, free-under, open-count, reserved, marking, room-answer, plus-one, minus-one, answer, next, run, answers}
 use Rattle.model.specs.Book.{Book, book-of, acceptances}
 use Rattle.model.specs.Promise.{Lets, Breaks, MayAsk}
 
@@ -205,6 +209,22 @@ pub record BlankPlace (n : Net) (free : ℕ → ℕ) (c : ℕ) : Type 0 where
 abbrev pub RefusedStill : Type 0
 RefusedStill = (l : Ledger) (c : Call) (f : Fault) → answer l c ≡ Err f → next l c ≡ l
 
+pub record Moved (l m : Ledger) (free opened : ℕ → ℕ) : Type 0 where
+  pub same-net : net-under m ≡ net-under l
+  pub tokens : free-under m ≡ free
+  pub counts : m .opened ≡ opened
+
+-- what stands after an accepted call that moves tokens, at every place: grant is begin, commit is finish, cancel is back, and
+-- report is begin and then finish; the net stays as it is
+abbrev pub CallsFire : Type 0
+CallsFire = (l : Ledger) (t : ℕ) →
+    let n : Net = net-under l in
+    let free : ℕ → ℕ = free-under l in
+    (answer l (grant t) ≡ Ok tt → Moved l (next l (grant t)) (begun n free t) (plus-one (l .opened) t))
+    × (answer l (commit t) ≡ Ok tt → Moved l (next l (commit t)) (finished n free t) (minus-one (l .opened) t))
+    × (answer l (cancel t) ≡ Ok tt → Moved l (next l (cancel t)) (gone-back n free t) (minus-one (l .opened) t))
+    × (answer l (report t) ≡ Ok tt → Moved l (next l (report t)) (finished n (begun n free t) t) (l .opened))
+
 -- every call of a list is answered
 abbrev pub AnswersAll : Type 0
 AnswersAll = (l : Ledger) (cs : List Call) → length (answers l cs) ≡ length cs
@@ -223,7 +243,6 @@ pub record Overfills (n : Net) (b : Book) (t p : ℕ) : Type 0 where
   pub within : (u : ℕ) → choice u ≤ b .v u
   pub over : pos (n .limit p) <ℤ ((b .q p +ℤ signed-sum (n .moves) (λ u. pos (choice u) *ℤ incidence n p u)) +ℤ incidence n p t)
 
--- what the ground places and the rules say to a move
 abbrev pub KeepsRules : Net → Book → ℕ → Type 0
 KeepsRules n b t = (r : InForce) → List·Memᴰ r (b .rules) → Breaks n b t r → ⊥
 

@@ -2,23 +2,31 @@
 --   Row           a row of a layer, plain: what each move takes and gives there, its free tokens, and whether it is in use
 --   blank         a row without a rule
 --   is-shut       a layer of so many rows over the net adds no place: there is no room for its rows, or it has none
+--   own-place     whether a place is one of the layer's rows
 --   layer-net     the net of a layer, over the net below and its rows, whatever they hold
 --   layer-free    the tokens at each place of it, over the tokens below
 --   next-layer    one above the highest layer of the places below k
 --   masked-take   what a row takes: nothing at an uncontrollable move; masked-give: nothing at a missing one
 --   row-fault     the fault of a move at a row: its place, the layer's number and the row's
 --   rows-begin, rows-finish, rows-back            what the rows of a layer answer to a move
+--   row-with      a row with other tokens
 --   rows-begun, rows-finished, rows-gone-back     the rows after it
 --   ruled-row     the row of a worked rule L'·m ≤ b': arcs −L'·D, and b' − L'·free tokens
+--   holds-now     refused if the worked rule does not hold of the tokens that stand now
 --   row-answer    what setting a row answers, where the layer has the row
+--   change-row    the rows with one changed
 --   Top           what stands on top of a pile: the bare plant, a fixed monitor or a board
+--   row-count     the rows of a layer; open-rows: those that can be admitted to
 --   Pile          a plant with its layers, by its top layer: the net and the tokens below it, and its rows
 --   pile-net, pile-free   the net of a pile, and its tokens
---   with-free     a pile whose tokens have changed
+--   pile-begun, pile-finished, pile-gone-back     the pile after an accepted begin, finish or back
+--   plant-alone   the pile of a bare plant
 --   with-layer    a pile with one more layer, of blank rows
 --   with-rule     a pile of which one row of the top layer has been set
+--   row-place     the control place of a row of the top layer
+--   top-answer    what setting a row of the top layer answers
 --   monitor-answer, board-answer   what setting the monitor's row, or row r of the board, answers
---   InForce       a rule in force, typed and worked, and the control place of its row
+--   InForce       a rule in force, typed and worked, and the control place of its row; in-force: the one just set
 --   Built         the piles that the layers' own calls can build, with the rules in force
 use mathlib.Core.Path.{_≡_}
 use mathlib.Core.Bool.{Bool, true, false, cond, _&&_, _||_, not}
@@ -35,7 +43,7 @@ use Rattle.model.specs.declared.refusal.Refusal.the-variants.{Short, OverLimit
 use Rattle.model.specs.declared.fault.Fault.{Fault}
 use Rattle.model.specs.Sizes.{most-all-places, control-limit, monitor-rows, board-rows}
 use Rattle.model.specs.Net.{Net, Ranges}
-use Rattle.model.specs.Plant.{Answer, lowest, refuse-at, setting-fault, refuse-unless, _else-by_}
+use Rattle.model.specs.Plant.{Answer, lowest, refuse-at, setting-fault, refuse-unless, _else-by_, begun, finished, gone-back}
 use Rattle.model.specs.Rule.{Rule, Worked, weighted-free, raise, positive, negative}
 use Rattle.model.specs.Working.{work}
 
@@ -51,7 +59,6 @@ blank = record { take = λ t. 0; give = λ t. 0; free = 0; in-use = false }
 abbrev pub is-shut : ℕ → Net → Bool
 is-shut size n = eqb size 0 || ltb most-all-places (n .places + size)
 
--- the places of a layer's own rows
 abbrev pub own-place : ℕ → Net → ℕ → Bool
 own-place size n p = leb (n .places) p && ltb p (n .places + size)
 
@@ -97,7 +104,6 @@ rows-finish size n rows t = refuse-at (row-fault n OverLimit t) (lowest (λ r. l
 abbrev pub rows-back : ℕ → Net → (ℕ → Row) → ℕ → Answer
 rows-back size n rows t = refuse-at (row-fault n OverLimit t) (lowest (λ r. ltb control-limit (rows r .free + masked-take n (rows r) t)) 0 size)
 
--- a row with other tokens
 abbrev pub row-with : Row → ℕ → Row
 row-with r free = record { take = r .take; give = r .give; free = free; in-use = r .in-use }
 
@@ -118,7 +124,6 @@ ruled-row n free w = record {
   in-use = true;
 }
 
--- a worked rule must hold of the tokens that stand now
 abbrev pub holds-now : Net → (ℕ → ℕ) → Result Worked Fault → Answer
 holds-now n free (Err f) = Err f
 holds-now n free (Ok w) = refuse-unless (leZ (weighted-free n (w .weight) free) (w .bound)) (setting-fault Broken)
@@ -129,7 +134,6 @@ row-answer size n free rows r typed =
     else-by refuse-unless (not (rows r .in-use)) (setting-fault RowInUse)
     else-by holds-now n free (work n typed)
 
--- one row changed, and no other
 abbrev pub change-row : (ℕ → Row) → ℕ → Row → ℕ → Row
 change-row rows r new i = cond (eqb i r) new (rows i)
 
@@ -143,7 +147,6 @@ row-count plant = 0
 row-count monitor = monitor-rows
 row-count board = board-rows
 
--- the rows that can be admitted to: those of a board
 abbrev pub open-rows : Top → ℕ
 open-rows plant = 0
 open-rows monitor = 0
@@ -161,26 +164,37 @@ pile-net p = layer-net (row-count (p .top)) (p .below) (p .rows)
 abbrev pub pile-free : Pile → ℕ → ℕ
 pile-free p = layer-free (row-count (p .top)) (p .below) (p .below-free) (p .rows)
 
--- a bare plant
 abbrev pub plant-alone : Net → (ℕ → ℕ) → Pile
 plant-alone n free = record { top = plant; below = n; below-free = free; rows = λ r. blank }
 
--- row r of the top layer is a place of the pile
-abbrev pub has-row : Pile → ℕ → Bool
-has-row p r = not (is-shut (row-count (p .top)) (p .below)) && ltb r (row-count (p .top))
-
-abbrev pub with-free : Pile → (ℕ → ℕ) → Pile
-with-free p free = record {
+-- an accepted begin, finish or back moves the tokens below and those of the rows
+abbrev pub pile-begun : Pile → ℕ → Pile
+pile-begun p t = record {
   top = p .top;
   below = p .below;
-  below-free = λ i. cond (ltb i (p .below .places)) (free i) (p .below-free i);
-  rows = λ r. row-with (p .rows r) (cond (has-row p r) (free (p .below .places + r)) (p .rows r .free));
+  below-free = begun (p .below) (p .below-free) t;
+  rows = rows-begun (p .below) (p .rows) t;
+}
+
+abbrev pub pile-finished : Pile → ℕ → Pile
+pile-finished p t = record {
+  top = p .top;
+  below = p .below;
+  below-free = finished (p .below) (p .below-free) t;
+  rows = rows-finished (p .below) (p .rows) t;
+}
+
+abbrev pub pile-gone-back : Pile → ℕ → Pile
+pile-gone-back p t = record {
+  top = p .top;
+  below = p .below;
+  below-free = gone-back (p .below) (p .below-free) t;
+  rows = rows-gone-back (p .below) (p .rows) t;
 }
 
 abbrev pub with-layer : Top → Pile → Pile
 with-layer top p = record { top = top; below = pile-net p; below-free = pile-free p; rows = λ r. blank }
 
--- the control place of row r of the top layer
 abbrev pub row-place : Pile → ℕ → ℕ
 row-place p r = p .below .places + r
 

@@ -3,11 +3,17 @@
 --   taken          what the open grants have taken from a place
 --   reserved       the most that the open grants may yet bring to a place: each the greater of its take and its give
 --   marking        m(p): the tokens free at a place and those that open grants have taken from it
---   crowded-place  the lowest place without room for the move: what it may come to hold, were the move and all open grants
+--   crowded        whether a place has no room for the move: what it may come to hold, were the move and all open grants
 --                  settled either way, is more than its limit
+--   crowded-place  the lowest such place; room-answer: refused there
+--   grant-checks   the checks of a grant before any place is looked at; is-open: refused if no grant of the move is open
 --   grant-answer, commit-answer, cancel-answer, report-answer   what the call answers, over net, tokens and open grants
+--   plus-one, minus-one   a count raised or lowered at one move
 --   Ledger, Call   a ledger; a call of one
 --   new-ledger     a ledger on a pile, with no open grants
+--   net-under, free-under   the net under a ledger, and its tokens
+--   set-by         the pile after a setting, by what working answered
+--   done           what an accepted call does
 --   answer, next   what a call answers, and the ledger after it
 --   run, answers   the same over a list, each call meeting what its forerunners left
 use mathlib.Core.Bool.{Bool, cond, not}
@@ -21,10 +27,10 @@ use Rattle.model.specs.declared.refusal.Refusal.the-variants.{Uncontrollable, 
 use Rattle.model.specs.declared.fault.Fault.{Fault}
 use Rattle.model.specs.Sizes.{most-open}
 use Rattle.model.specs.Net.{Net, sum}
-use Rattle.model.specs.Plant.{Answer, accepted, lowest, fault-of, fault-at, setting-fault, refuse-at, refuse-unless, _else-by_, known, begin-answer, begun, finish-answer, finished, back-answer, gone-back}
+use Rattle.model.specs.Plant.{Answer, accepted, lowest, fault-of, fault-at, setting-fault, refuse-at, refuse-unless, _else-by_, known, begin-answer, finish-answer, back-answer}
 use Rattle.model.specs.Rule.{Rule, Worked}
 use Rattle.model.specs.Working.{work}
-use Rattle.model.specs.Layer.{Pile, pile-net, pile-free, with-free, with-rule, board-answer}
+use Rattle.model.specs.Layer.{Pile, pile-net, pile-free, pile-begun, pile-finished, pile-gone-back, with-rule, board-answer}
 
 abbrev pub open-count : Net → (ℕ → ℕ) → ℕ
 open-count n opened = sum (n .moves) opened
@@ -48,7 +54,6 @@ crowded-place n free opened t = lowest (crowded n free opened t) 0 (n .places)
 abbrev pub room-answer : Net → (ℕ → ℕ) → (ℕ → ℕ) → ℕ → Answer
 room-answer n free opened t = refuse-at (fault-at n NoRoom t) (crowded-place n free opened t)
 
--- the checks of a grant before any place is looked at
 abbrev pub grant-checks : Net → (ℕ → ℕ) → ℕ → Answer
 grant-checks n opened t =
     known n t
@@ -88,7 +93,6 @@ pub record Ledger : Type 0 where
 abbrev pub new-ledger : Pile → Ledger
 new-ledger p = record { pile = p; opened = λ t. 0 }
 
--- the net under a ledger, and its tokens
 abbrev pub net-under : Ledger → Net
 net-under l = pile-net (l .pile)
 
@@ -115,12 +119,11 @@ abbrev pub set-by : Pile → ℕ → Result Worked Fault → Pile
 set-by p r (Ok w) = with-rule p r w
 set-by p r (Err f) = p
 
--- what an accepted call does
 abbrev pub done : Ledger → Call → Ledger
-done l (grant t) = record { pile = with-free (l .pile) (begun (net-under l) (free-under l) t); opened = plus-one (l .opened) t }
-done l (commit t) = record { pile = with-free (l .pile) (finished (net-under l) (free-under l) t); opened = minus-one (l .opened) t }
-done l (cancel t) = record { pile = with-free (l .pile) (gone-back (net-under l) (free-under l) t); opened = minus-one (l .opened) t }
-done l (report t) = record { pile = with-free (l .pile) (finished (net-under l) (begun (net-under l) (free-under l) t) t); opened = l .opened }
+done l (grant t) = record { pile = pile-begun (l .pile) t; opened = plus-one (l .opened) t }
+done l (commit t) = record { pile = pile-finished (l .pile) t; opened = minus-one (l .opened) t }
+done l (cancel t) = record { pile = pile-gone-back (l .pile) t; opened = minus-one (l .opened) t }
+done l (report t) = record { pile = pile-finished (pile-begun (l .pile) t) t; opened = l .opened }
 done l (admit r typed) = record { pile = set-by (l .pile) r (work (l .pile .below) typed); opened = l .opened }
 
 abbrev pub next : Ledger → Call → Ledger

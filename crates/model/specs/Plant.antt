@@ -4,13 +4,15 @@
 --   fault-of        the fault of a move, for no place
 --   fault-at        the fault of a move at a place, with the layer and row of that place
 --   setting-fault   the fault of a setting, which has neither move nor place
+--   spot-place      the place of a spot, if there is one
 --   named-place     the place that an answer names, if it names one
 --   lowest          the lowest of the numbers i, i + 1, .. (k of them) that passes a test
 --   refuse-at       refused at the place that was found, else accepted
 --   refuse-unless   accepted if the test holds, else refused
---   else-by         an earlier refusal stands, else the next check answers
+--   _else-by_       an earlier refusal stands, else the next check answers
 --   short-place     the lowest place that has fewer tokens than the move takes
 --   over-place      the lowest place that would go over its limit, were so many tokens added to each
+--   known           refused for a missing move
 --   begin-answer, finish-answer, back-answer   what begin, finish and back answer
 --   begun, finished, gone-back                 the tokens at each place after it
 use mathlib.Core.Bool.{Bool, true, false, cond}

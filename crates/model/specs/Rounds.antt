@@ -8,6 +8,7 @@
 --   Quiet        no uncontrollable move raises the rule
 --   WorkedOut    the rule is worked after at most the rounds there may be, and it tells how many they were
 --   EndlessOf, StuckOf, LargeOf   why there is no worked rule: 22, 20, 21
+--   RoundsSay    what an answer means, when so many rounds may change the rule
 --   WorkSays     what an answer of working means
 use mathlib.Core.Path.{_≡_}
 use mathlib.Core.Bool.{false}

@@ -1,10 +1,15 @@
 -- Working a rule, round by round: each round changes the rule so that one uncontrollable move no longer raises it.
+--   ground-only  whether a rule weighs ground places only
 --   is-typed     whether a rule is one that can be typed: small weights, on ground places only, and a small bound
 --   divisor      the greatest number from 1 to k that divides a and e
 --   rising       whether a move is uncontrollable and raises the rule
 --   falls        whether the move takes more of the place than it gives
+--   absorbed     the rule after a round, by the numbers of the round
 --   changed      the rule after a round, for the move t and the place p
+--   fits         whether a round's rule is small enough
+--   at-move, at-place   what a round does with the move and the place that were found; at-end: when no round is left
 --   rounds-from  working on from a rule, when so many rounds may still change it
+--   unchanged    a typed rule before its first round
 --   work         what working a typed rule answers: the worked rule, or 25, 20, 21 or 22
 use mathlib.Core.Bool.{Bool, cond, _&&_, _||_, not}
 use Prim.Native.Nat.{ℕ, zero, suc, _-_, _/_, _%_}
@@ -73,7 +78,6 @@ unfoldable pub rounds-from : ℕ → Net → Worked → Result Worked Fault
 rounds-from zero n w = at-end w (lowest (rising n w) 0 (n .moves))
 rounds-from (suc k) n w = at-move (rounds-from k n) n w (lowest (rising n w) 0 (n .moves))
 
--- a typed rule before its first round
 abbrev pub unchanged : Rule → Worked
 unchanged r = record { weight = r .weight; bound = r .bound; rounds = 0 }
 

@@ -1,6 +1,6 @@
 // The promise and the laws of the model, each as the contract of a function, so that the check asks for its proof.
 ghost use Rattle.model.specs.Promise.{Promise};
-ghost use Rattle.model.specs.Laws.{BeginFires, FinishFires, BackFires, BeginBack, BeginFinish, WorkingSays, IsRound, DivisorGcd, WorkDerives, WorkQuiets, WorkedImplies, WorkOnGround, LayerBegins, LayerMoves, LayerRanges, NewRows, AboveAll, SetRow, RefusedStill, AnswersAll, ReportIs, GrantsExact, ReportsExact, AdmitsExact, RowsAreRules, AllStanding, StateEquation};
+ghost use Rattle.model.specs.Laws.{BeginFires, FinishFires, BackFires, BeginBack, BeginFinish, WorkingSays, IsRound, DivisorGcd, WorkDerives, WorkQuiets, WorkedImplies, WorkOnGround, LayerBegins, LayerMoves, LayerRanges, NewRows, AboveAll, SetRow, RefusedStill, CallsFire, AnswersAll, ReportIs, GrantsExact, ReportsExact, AdmitsExact, RowsAreRules, AllStanding, StateEquation};
 
 // After every list of calls on every pile that can be built: the book agrees with the ledger, each rule in force adds up to
 // its bound, a grant is refused for a rule exactly when it would break one, and reports, commits and cancels pass.
@@ -147,6 +147,13 @@ pub fn set_row() -> u8
 // A refused call leaves the ledger as it was.
 pub fn refused_still() -> u8
     ensures { λ _. ⌜ RefusedStill ⌝ }
+{
+    0
+}
+
+// After an accepted call every place has the tokens of the firing rule: begin, finish, back, or begin and then finish.
+pub fn calls_fire() -> u8
+    ensures { λ _. ⌜ CallsFire ⌝ }
 {
     0
 }

@@ -1,9 +1,10 @@
 -- What the program prints for its three texts.
 --   free-of x i      the free tokens at place i of a net that has just been read
---   free-named x n   the free tokens of the place of the name n, if there is one
---   shown x n        the answer to `show n`
---   answer x fs      the answer to an order with the fields fs
---   answers x ls     the answers to the orders ls, one line for each
+--   free-named       the free tokens of the place of that name, if there is one, where `free` tells the tokens now at each place
+--   shown            the answer to `show` with that name
+--   answer           the answer to an order with those fields
+--   answers          the answers to those orders, one line for each
+--   ran-on           what the orders print on a net with those tokens
 --   ran x orders     what a run on the net x prints: a line that refuses the orders, or an answer for each
 --   printed          what the program prints: a line that refuses the net, or a run on it
 use Prim.Native.Nat.{ℕ}
@@ -30,33 +31,34 @@ nowhere = record { name = []; tokens = 0; limit = 0 }
 abbrev pub free-of : NetText → ℕ → ℕ
 free-of x i = getD (x .places) i nowhere .tokens
 
-abbrev pub free-named : NetText → List ℕ → Option ℕ
-free-named x n = cond (is-known (place-names x) n) (Some (free-of x (index-of (place-names x) n))) None
+abbrev pub free-named : NetText → (ℕ → ℕ) → List ℕ → Option ℕ
+free-named x free n = cond (is-known (place-names x) n) (Some (free (index-of (place-names x) n))) None
 
 abbrev pub shown-as : List ℕ → Option ℕ → List ℕ
 shown-as n None = no-line NameUnknown
 shown-as n (Some free) = at-line n free
 
-abbrev pub shown : NetText → List ℕ → List ℕ
-shown x n = shown-as n (free-named x n)
+abbrev pub shown : NetText → (ℕ → ℕ) → List ℕ → List ℕ
+shown x free n = shown-as n (free-named x free n)
 
 -- an order is its word and one more field
-abbrev pub answer : NetText → List (List ℕ) → List ℕ
-answer x [] = no-line NoRecord
-answer x (w ∷ []) = no-line NoRecord
-answer x (w ∷ n ∷ []) = cond (sameBytes w (codes "show")) (shown x n) (no-line NoRecord)
-answer x (w ∷ n ∷ m ∷ fs) = no-line NoRecord
+abbrev pub answer : NetText → (ℕ → ℕ) → List (List ℕ) → List ℕ
+answer x free [] = no-line NoRecord
+answer x free (w ∷ []) = no-line NoRecord
+answer x free (w ∷ n ∷ []) = cond (sameBytes w (codes "show")) (shown x free n) (no-line NoRecord)
+answer x free (w ∷ n ∷ m ∷ fs) = no-line NoRecord
 
-abbrev pub answers : NetText → List (List ℕ) → List ℕ
-answers x [] = []
-answers x (l ∷ ls) = answer x (fields l) ++ answers x ls
+abbrev pub answers : NetText → (ℕ → ℕ) → List (List ℕ) → List ℕ
+answers x free [] = []
+answers x free (l ∷ ls) = answer x free (fields l) ++ answers x free ls
 
-abbrev pub ran-with : NetText → List ℕ → Result (Unit {0}) TextFault → List ℕ
-ran-with x orders (Err f) = bad-line (codes "orders") f
-ran-with x orders (Ok u) = answers x (lines orders)
+abbrev pub ran-on : NetText → (ℕ → ℕ) → List ℕ → Result (Unit {0}) TextFault → List ℕ
+ran-on x free orders (Err f) = bad-line (codes "orders") f
+ran-on x free orders (Ok u) = answers x free (lines orders)
 
+-- the tokens of a plant that has just been made are those of the text
 abbrev pub ran : NetText → List ℕ → List ℕ
-ran x orders = ran-with x orders (text-check orders)
+ran x orders = ran-on x (free-of x) orders (text-check orders)
 
 abbrev pub printed-with : Result NetText TextFault → List ℕ → List ℕ
 printed-with (Err f) orders = bad-line (codes "net") f

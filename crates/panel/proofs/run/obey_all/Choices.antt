@@ -9,9 +9,9 @@ use Rattle.panel.specs.Run.{answers}
 use Rattle.panel.proofs.run.obey_all.Given as given
 
 abbrev pub Inv-orders : given.InvT-orders
-Inv-orders l =
-    (vec-items (l .out) ++ answers (net-of (l .text) (l .net)) (lines (drop (l .start) (l .orders))) ≡ vec-items (l .entry .out) ++ answers (net-of (l .text) (l .net)) (lines (l .orders)))
+Inv-orders g l =
+    (vec-items (l .out) ++ answers (net-of (l .text) (l .net)) (g .P·Plant .tokens (l .plant)) (lines (drop (l .start) (l .orders))) ≡ vec-items (l .entry .out) ++ answers (net-of (l .text) (l .net)) (g .P·Plant .tokens (l .plant)) (lines (l .orders)))
     × (l .start ≤ length (l .orders))
 
 abbrev pub μ-orders : given.MeasureT-orders
-μ-orders l = length (l .orders) - l .start
+μ-orders g l = length (l .orders) - l .start

@@ -1,6 +1,6 @@
-use mathlib.Core.Path.{_≡_, _∙_, ap, subst}
+use mathlib.Core.Path.{_≡_, subst}
 use mathlib.Core.Bool.{cond}
-use Prim.Native.Nat.{ℕ, _<_}
+use Prim.Native.Nat.{ℕ}
 use lib.Dec.{eqb}
 use Rattle.bank.specs.Banks.{bit, letter, next-place}
 use Rattle.bank.proofs.Ranging.{next-inside}
