@@ -25,7 +25,7 @@ pub record LettersTo (ms : List Move) (i w : ℕ) : Type 0 where
 letters-net : (n : ℕ) (c d : ℕ → Bool) → ((t : ℕ) → t < n → c t ≡ d t) → bank-net n c ≡ bank-net n d
 letters-net n c d same =
     λ i. record {
-      ground = n;
+      ground-places = n;
       places = n;
       moves = n;
       controllable = λ t. each t i;

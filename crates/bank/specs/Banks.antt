@@ -27,7 +27,7 @@ arc n p t q = cond (nat_lt p n && (nat_lt t n && p == q)) 1 0
 
 abbrev pub bank-net : ℕ → (ℕ → Bool) → Net
 bank-net n c = record {
-  ground = n;
+  ground-places = n;
   places = n;
   moves = n;
   controllable = λ t. nat_lt t n && c t;

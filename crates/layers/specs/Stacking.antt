@@ -11,4 +11,4 @@ pub record Stacked (n : Net) (free : ℕ → ℕ) (typed : Rule) (p : Pile) : Ty
   pub worked : Worked
   pub works : work n typed ≡ Ok worked
   pub pile : p ≡ with-layer board (with-rule (with-layer monitor (plant-alone n free)) 0 worked)
-  pub built : n.places ≡ n.ground → Built p (in-force (with-layer monitor (plant-alone n free)) 0 typed worked ∷ [])
+  pub built : n.places ≡ n.ground-places → Built p (in-force (with-layer monitor (plant-alone n free)) 0 typed worked ∷ [])

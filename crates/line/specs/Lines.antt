@@ -12,7 +12,7 @@ use Rattle.line.specs.declared.line.Line.{Line}
 
 abbrev pub line-net : ℕ → (ℕ → ℕ) → (ℕ → Bool) → Net
 line-net k limits letters = record {
-  ground = k;
+  ground-places = k;
   places = k;
   moves = k + 1;
   controllable = λ t. nat_lt t (k + 1) && letters t;

@@ -45,7 +45,7 @@ module _ (l : Ledger) (q : ℕ → ℤ) (rs : List InForce) (s : Steady (net-und
       low a s h e = omega arith
 
   same-weight : (w : Worked) → open-count (pile-net p) g ≡ 0 → weighted (pile-net p) w.weight q ≡ weighted-free p.below w.weight p.below_free
-  same-weight w e = signed-sum-ext (pile-net p).ground (λ i. w.weight i *ℤ q i) (λ i. w.weight i *ℤ pos (pile-free p i)) (λ i k. ap (λ x. w.weight i *ℤ x) (s.marked i k ∙ ap pos (add (pile-free p i) (taken (pile-net p) g i) (sum-none (pile-net p).moves g (λ u. (pile-net p).take i u) (all_none e)))))
+  same-weight w e = signed-sum-ext (pile-net p).ground-places (λ i. w.weight i *ℤ q i) (λ i. w.weight i *ℤ pos (pile-free p i)) (λ i k. ap (λ x. w.weight i *ℤ x) (s.marked i k ∙ ap pos (add (pile-free p i) (taken (pile-net p) g i) (sum-none (pile-net p).moves g (λ u. (pile-net p).take i u) (all_none e)))))
       ∙ layer-weighted (row_count p.top) p.below p.rows p.below_free w.weight h.based.places-all
     where
       add : (a b : ℕ) → b ≡ 0 → a + b ≡ a

@@ -28,7 +28,7 @@ pub record Good (p : Pile) (rs : List InForce) : Type 0 where
 -- a layer of blank rows: the net below, with more places
 abbrev pub grown : Net → ℕ → Net
 grown n s = record {
-  ground = n.ground;
+  ground-places = n.ground-places;
   places = n.places + s;
   moves = n.moves;
   controllable = n.controllable;
@@ -45,7 +45,7 @@ module _ (n : Net) (k : ℕ) (R : Ranges n) where
   blank-arc false = refl
 
   abbrev arcs : (ℕ → ℕ → ℕ) → (ℕ → ℕ → ℕ) → Net
-  arcs take give = record { ground = n.ground; places = n.places + k; moves = n.moves; controllable = n.controllable; take = take; give = give; limit = (grown n k).limit; layer = (grown n k).layer; row = (grown n k).row }
+  arcs take give = record { ground-places = n.ground-places; places = n.places + k; moves = n.moves; controllable = n.controllable; take = take; give = give; limit = (grown n k).limit; layer = (grown n k).layer; row = (grown n k).row }
 
   pub blank-net : open-net k n (λ r. blank) ≡ grown n k
   blank-net = ap₂ arcs
@@ -66,7 +66,7 @@ grown-steady : (n : Net) (free g : ℕ → ℕ) (q : ℕ → ℤ) (rs : List InF
 grown-steady n free g q rs k few z s = record {
   ranges = grown-ranges n k s.ranges few;
   roomy = λ p l. stretch (λ x. free p + reserved n g p ≤ x) n.places (n.places + k) p control-limit (n.limit p)
-      (λ a b. empty (free p) (reserved n g p) (grown-room n free g q rs s p a (s.control p (le2 n.ground n.places p s.ranges.places-all a))) (sum-none n.moves g (λ u. max (n.take p u) (n.give p u)) (λ i h. z i)))
+      (λ a b. empty (free p) (reserved n g p) (grown-room n free g q rs s p a (s.control p (le2 n.ground-places n.places p s.ranges.places-all a))) (sum-none n.moves g (λ u. max (n.take p u) (n.give p u)) (λ i h. z i)))
       (λ d. s.roomy p (before p n.places k l d));
   few = s.few;
   beyond = s.beyond;
@@ -117,8 +117,8 @@ module _ (p : Pile) (rs : List InForce) (top : Top) (h : Good p rs) where
   on false e = subst (λ (m : Net). Steady m (pile-free p) (λ t. 0) (λ i. pos (pile-free p i)) rs) (sym (net-opens k n (λ r. blank) e ∙ blank-net n k h.steady.ranges))
       (grown-steady n (pile-free p) (λ t. 0) (λ i. pos (pile-free p i)) rs k (not-shut k n e) (λ t. refl) h.steady)
 
-  there : (r : ℕ) → r < k → is-shut k n ≡ false → ((pile-net (with-layer top p)).ground ≤ n.places) × (n.places + r < (pile-net (with-layer top p)).places)
-  there r l e = subst (λ (m : Net). (m.ground ≤ n.places) × (n.places + r < m.places)) (sym (net-opens k n (λ r. blank) e)) (h.steady.ranges.places-all, less n.places r k l)
+  there : (r : ℕ) → r < k → is-shut k n ≡ false → ((pile-net (with-layer top p)).ground-places ≤ n.places) × (n.places + r < (pile-net (with-layer top p)).places)
+  there r l e = subst (λ (m : Net). (m.ground-places ≤ n.places) × (n.places + r < m.places)) (sym (net-opens k n (λ r. blank) e)) (h.steady.ranges.places-all, less n.places r k l)
     where
       less : (a b c : ℕ) → b < c → a + b < a + c
       less a b c h = omega arith
@@ -130,7 +130,7 @@ module _ (p : Pile) (rs : List InForce) (top : Top) (h : Good p rs) where
   }
 
 -- ---- a bare plant
-good-bare : (n : Net) (free : ℕ → ℕ) → Ranges n → n.places ≡ n.ground → ((i : ℕ) → free i ≤ n.limit i) → Good (plant-alone n free) []
+good-bare : (n : Net) (free : ℕ → ℕ) → Ranges n → n.places ≡ n.ground-places → ((i : ℕ) → free i ≤ n.limit i) → Good (plant-alone n free) []
 good-bare n free R all fits = record {
   steady = record {
     ranges = R;
@@ -180,12 +180,12 @@ good-set p rs h r here typed w ok is = record {
     same : pile-net (with-rule p r w) ≡ set-net (pile-net p) (row-place p r) w
     same = net-set p h.shape.based r here typed w ok is
 
-    low : (pile-net p).ground ≤ row-place p r
+    low : (pile-net p).ground-places ≤ row-place p r
     low = set-low p h.shape.based r here typed w ok is (λ t. 0) (λ i. pos (pile-free p i)) rs h.steady h.shape
 
-    tokens : (i : ℕ) → i < (pile-net (with-rule p r w)).ground → pos (pile-free (with-rule p r w) i) ≡ pos (pile-free p i)
+    tokens : (i : ℕ) → i < (pile-net (with-rule p r w)).ground-places → pos (pile-free (with-rule p r w) i) ≡ pos (pile-free p i)
     tokens i l = ap (λ (f : ℕ → ℕ). pos (f i)) (free-set p h.shape.based r here typed w ok is)
-        ∙ ap pos (pick_other i (row-place p r) (positive (w.bound -ℤ weighted-free (pile-net p) w.weight (pile-free p))) (pile-free p i) (off i (pile-net p).ground (row-place p r) (subst (λ (m : Net). i < m.ground) same l) low))
+        ∙ ap pos (pick_other i (row-place p r) (positive (w.bound -ℤ weighted-free (pile-net p) w.weight (pile-free p))) (pile-free p i) (off i (pile-net p).ground-places (row-place p r) (subst (λ (m : Net). i < m.ground-places) same l) low))
 
 pub board-says : (p : Pile) (r : ℕ) (typed : Rule) → board-answer p r typed ≡ Ok tt → (r < row_count p.top) × (top-answer p r typed ≡ Ok tt)
 board-says p r typed e =

@@ -48,11 +48,11 @@ module _ (n : Net) (free g : ℕ → ℕ) (q : ℕ → ℤ) (rs : List InForce) 
   abbrev b : Book
   b = record { q = q; v = g; rules = rs }
 
-  room-fine : (t i : ℕ) → i < n.ground → free i + max (n.take i t) (n.give i t) + reserved n g i ≤ n.limit i + n.take i t → Overfills n b t i → ⊥
+  room-fine : (t i : ℕ) → i < n.ground-places → free i + max (n.take i t) (n.give i t) + reserved n g i ≤ n.limit i + n.take i t → Overfills n b t i → ⊥
   room-fine t i k h o = no-over (q i) (signed-sum n.moves (λ u. pos (o.choice u) *ℤ incidence n i u)) (incidence n i t) (free i) (n.take i t) (n.give i t) (reserved n g i) (taken n g i) (sum n.moves (λ u. g u * positive (incidence n i u))) (n.limit i)
       (s.marked i k) (choice-most n.moves o.choice g (λ u. incidence n i u) o.within) (reserved-is n.moves g (λ u. n.take i u) (λ u. n.give i u)) refl h o.over
 
-  room-over : (t i : ℕ) → i < n.ground → n.limit i + n.take i t < free i + max (n.take i t) (n.give i t) + reserved n g i → Overfills n b t i
+  room-over : (t i : ℕ) → i < n.ground-places → n.limit i + n.take i t < free i + max (n.take i t) (n.give i t) + reserved n g i → Overfills n b t i
   room-over t i k h = record {
     choice = λ u. wise (incidence n i u) (g u);
     within = λ u. wise-le (incidence n i u) (g u);
@@ -60,9 +60,9 @@ module _ (n : Net) (free g : ℕ → ℕ) (q : ℕ → ℤ) (rs : List InForce) 
         (s.marked i k) (wise-sum n.moves g (λ u. incidence n i u)) (reserved-is n.moves g (λ u. n.take i u) (λ u. n.give i u)) refl (s.roomy i (in_all n free g q rs s i k)) h;
   }
 
-  split : (i : ℕ) (z : Bool) → ltb i n.ground ≡ z → (i < n.ground) ⊎ (n.ground ≤ i)
-  split i true e = inl (ltb-true i n.ground e)
-  split i false e = inr (ltb-false i n.ground e)
+  split : (i : ℕ) (z : Bool) → ltb i n.ground-places ≡ z → (i < n.ground-places) ⊎ (n.ground-places ≤ i)
+  split i true e = inl (ltb-true i n.ground-places e)
+  split i false e = inr (ltb-false i n.ground-places e)
 
   -- ---- what the ground places and the rules allow, the places allow
   module _ (t : ℕ) (lets : Lets n b t) (keeps : KeepsRules n b t) (fits : HasRoom n b t) where
@@ -75,20 +75,20 @@ module _ (n : Net) (free g : ℕ → ℕ) (q : ℕ → ℤ) (rs : List InForce) 
     enough-go c (inr d) false e = e
 
     enough : (i : ℕ) → ltb (free i) (n.take i t) ≡ false
-    enough i = go (split i (ltb i n.ground) refl)
+    enough i = go (split i (ltb i n.ground-places) refl)
       where
-        go : (i < n.ground) ⊎ (n.ground ≤ i) → ltb (free i) (n.take i t) ≡ false
+        go : (i < n.ground-places) ⊎ (n.ground-places ≤ i) → ltb (free i) (n.take i t) ≡ false
         go (inl k) = le-ltb (free i) (n.take i t) (unlet (q i) (free i) (n.take i t) (taken n g i) (s.marked i k) (lets i k))
         go (inr k) = enough-go i (s.control i k) (ltb (free i) (n.take i t)) refl
 
     roomed : (i : ℕ) → i < n.places → crowded n free g t i ≡ false
-    roomed i k = go (split i (ltb i n.ground) refl)
+    roomed i k = go (split i (ltb i n.ground-places) refl)
       where
-        ground-go : i < n.ground → (z : Bool) → crowded n free g t i ≡ z → crowded n free g t i ≡ false
+        ground-go : i < n.ground-places → (z : Bool) → crowded n free g t i ≡ z → crowded n free g t i ≡ false
         ground-go m true e = absurd (fits i m (room-over t i m (ltb-true (n.limit i + n.take i t) (free i + max (n.take i t) (n.give i t) + reserved n g i) e)))
         ground-go m false e = e
 
-        go : (i < n.ground) ⊎ (n.ground ≤ i) → crowded n free g t i ≡ false
+        go : (i < n.ground-places) ⊎ (n.ground-places ≤ i) → crowded n free g t i ≡ false
         go (inl m) = ground-go m (crowded n free g t i) refl
         go (inr m) = le-ltb (n.limit i + n.take i t) (free i + max (n.take i t) (n.give i t) + reserved n g i) (control-room n free g q rs s t i m k)
 

@@ -45,7 +45,7 @@ not-shut size n e = ltb-false most-all-places (n.places + size) (shut-or (eqb si
 -- ---- a layer that is not shut
 abbrev pub open-net : ℕ → Net → (ℕ → Row) → Net
 open-net size n rows = record {
-  ground = n.ground;
+  ground-places = n.ground-places;
   places = n.places + size;
   moves = n.moves;
   controllable = n.controllable;
@@ -73,7 +73,7 @@ module _ (size : ℕ) (n : Net) (rows : ℕ → Row) where
   free-shuts free e = fun_ext (λ i. ap (λ b. cond (not b && own-place size n i) (rows (i - n.places)).free (free i)) e)
 
   -- ---- the ground part
-  open-same : n.ground ≤ n.places → SameGround n (open-net size n rows)
+  open-same : n.ground-places ≤ n.places → SameGround n (open-net size n rows)
   open-same h = record {
     same-ground = refl;
     same-moves = refl;
@@ -82,7 +82,7 @@ module _ (size : ℕ) (n : Net) (rows : ℕ → Row) where
     same-give = λ p t l. ap (λ b. cond b (masked-give n (rows (p - n.places)) t) (n.give p t)) (not_own n.places size p (le_trans l h));
   }
 
-  pub layer-same : n.ground ≤ n.places → SameGround n (layer-net size n rows)
+  pub layer-same : n.ground-places ≤ n.places → SameGround n (layer-net size n rows)
   layer-same h = go (is-shut size n)
     where
       go : (b : Bool) → SameGround n (cond b n (open-net size n rows))
@@ -96,9 +96,9 @@ module _ (size : ℕ) (n : Net) (rows : ℕ → Row) where
       go true = refl
       go false = ap (λ b. cond b (rows (i - n.places)).free (free i)) (not_own n.places size i l)
 
-  pub layer-weighted : (free : ℕ → ℕ) (l : ℕ → ℤ) → n.ground ≤ n.places → weighted-free (layer-net size n rows) l (layer-free size n free rows) ≡ weighted-free n l free
+  pub layer-weighted : (free : ℕ → ℕ) (l : ℕ → ℤ) → n.ground-places ≤ n.places → weighted-free (layer-net size n rows) l (layer-free size n free rows) ≡ weighted-free n l free
   layer-weighted free l h = ap (λ g. signed-sum g (λ i. l i *ℤ pos (layer-free size n free rows i))) (layer-same h).same-ground
-      ∙ signed-sum-ext n.ground (λ i. l i *ℤ pos (layer-free size n free rows i)) (λ i. l i *ℤ pos (free i)) (λ i k. ap (λ x. l i *ℤ pos x) (free-below free i (le_trans k h)))
+      ∙ signed-sum-ext n.ground-places (λ i. l i *ℤ pos (layer-free size n free rows i)) (λ i. l i *ℤ pos (free i)) (λ i k. ap (λ x. l i *ℤ pos x) (free-below free i (le_trans k h)))
 
   -- ---- the ranges, whatever the rows hold, if only their arcs are small
   module _ (R : Ranges n) (small : (r t : ℕ) → r < size → ((rows r).take t ≤ most-control-arc) × ((rows r).give t ≤ most-control-arc)) where
@@ -112,7 +112,7 @@ module _ (size : ℕ) (n : Net) (rows : ℕ → Row) where
     off : (b : Bool) (x : ℕ) → b ≡ false → cond b x 0 ≡ 0
     off b x e = ap (λ z. cond z x 0) e
 
-    apart : (p : ℕ) → p < n.ground → n.places ≤ p → ⊥
+    apart : (p : ℕ) → p < n.ground-places → n.places ≤ p → ⊥
     apart p l a = omega (arith, R.places-all)
 
     over : (a b : ℕ) → a < b → b ≤ a → ⊥

@@ -77,7 +77,7 @@ abbrev pub after : Net → (ℕ → ℤ) → ℕ → ℕ → ℤ
 after n q t p = q p +ℤ incidence n p t
 
 after-weighted : (n : Net) (w q : ℕ → ℤ) (t : ℕ) → weighted n w (after n q t) ≡ weighted n w q +ℤ raise n w t
-after-weighted n w q t = signed-sum-add n.ground w q (λ p. incidence n p t)
+after-weighted n w q t = signed-sum-add n.ground-places w q (λ p. incidence n p t)
 
 module _ (n : Net) (free g : ℕ → ℕ) (q : ℕ → ℤ) (rs : List InForce) (s : Steady n free g q rs) (t : ℕ) (known : t < n.moves) where
   pub granted : (free' : ℕ → ℕ) → ((p : ℕ) → free' p ≡ free p - n.take p t) → ((p : ℕ) → p < n.places → n.take p t ≤ free p) → sum n.moves g < most-open →
@@ -104,7 +104,7 @@ module _ (n : Net) (free g : ℕ → ℕ) (q : ℕ → ℤ) (rs : List InForce) 
       none : (f a : ℕ) → f ≡ 0 → f - a ≡ 0
       none f a e = omega arith
 
-      in_all : (p : ℕ) → p < n.ground → p < n.places
+      in_all : (p : ℕ) → p < n.ground-places → p < n.places
       in_all p l = omega (arith, s.ranges.places-all)
 
       rule : (r : InForce) → Stands n free g q r → Stands n free' (plus_one g t) q r
@@ -183,7 +183,7 @@ module _ (n : Net) (free g : ℕ → ℕ) (q : ℕ → ℤ) (rs : List InForce) 
       none : (f a b : ℕ) → f ≡ 0 → b ≡ 0 → f - a + b ≡ 0
       none f a b e k = omega arith
 
-      in_all : (p : ℕ) → p < n.ground → p < n.places
+      in_all : (p : ℕ) → p < n.ground-places → p < n.places
       in_all p l = omega (arith, s.ranges.places-all)
 
       rule : (r : InForce) → Stands n free g q r → Stands n free' g (after n q t) r

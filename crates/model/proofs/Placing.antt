@@ -17,7 +17,7 @@ use Rattle.model.proofs.Working.{work-on-ground, work-derives, work-quiets}
 use Rattle.model.proofs.Steady.{held-open, Stands, Steady}
 
 -- the book may hold anything off the ground
-pub other-book : (n : Net) (free g : ℕ → ℕ) (q q' : ℕ → ℤ) (rs : List InForce) → ((p : ℕ) → p < n.ground → q' p ≡ q p) → Steady n free g q rs → Steady n free g q' rs
+pub other-book : (n : Net) (free g : ℕ → ℕ) (q q' : ℕ → ℤ) (rs : List InForce) → ((p : ℕ) → p < n.ground-places → q' p ≡ q p) → Steady n free g q rs → Steady n free g q' rs
 other-book n free g q q' rs e s = record {
   ranges = s.ranges;
   roomy = s.roomy;
@@ -34,7 +34,7 @@ other-book n free g q q' rs e s = record {
       high = k.high;
       takes = k.takes;
       gives = k.gives;
-      adds-up = ap (λ x. (x +ℤ pos (free r.place)) +ℤ pos (held-open n g r.worked.weight)) (signed-sum-ext n.ground (λ p. r.worked.weight p *ℤ q' p) (λ p. r.worked.weight p *ℤ q p) (λ p l. ap (λ x. r.worked.weight p *ℤ x) (e p l))) ∙ k.adds-up;
+      adds-up = ap (λ x. (x +ℤ pos (free r.place)) +ℤ pos (held-open n g r.worked.weight)) (signed-sum-ext n.ground-places (λ p. r.worked.weight p *ℤ q' p) (λ p. r.worked.weight p *ℤ q p) (λ p l. ap (λ x. r.worked.weight p *ℤ x) (e p l))) ∙ k.adds-up;
       working = k.working;
     }
 
@@ -55,7 +55,7 @@ module _ (n : Net) (free g : ℕ → ℕ) (q : ℕ → ℤ) (rs : List InForce) 
   none : (h : ℕ → ℕ) → sum n.moves (λ u. g u * h u) ≡ 0
   none h = sum-none n.moves g h (λ i l. z i)
 
-  free-is : (p : ℕ) → p < n.ground → q p ≡ pos (free p)
+  free-is : (p : ℕ) → p < n.ground-places → q p ≡ pos (free p)
   free-is p l = s.marked p l ∙ ap pos (plain (free p) (taken n g p) (none (n.take p)))
     where
       plain : (a b : ℕ) → b ≡ 0 → a + b ≡ a
@@ -67,16 +67,16 @@ module _ (n : Net) (free g : ℕ → ℕ) (q : ℕ → ℤ) (rs : List InForce) 
       part : (a b c : ℕ) → a + b ≤ c → a ≤ c
       part a b c h = omega arith
 
-  free-small : (p : ℕ) → p < n.ground → free p ≤ most-limit
+  free-small : (p : ℕ) → p < n.ground-places → free p ≤ most-limit
   free-small p l = le_trans (free-fits p (omega (arith, s.ranges.places-all))) (s.ranges.ground-limit p l).1
 
   weighted-is : (w : ℕ → ℤ) → weighted n w q ≡ weighted-free n w free
-  weighted-is w = signed-sum-ext n.ground (λ p. w p *ℤ q p) (λ p. w p *ℤ pos (free p)) (λ p l. ap (λ x. w p *ℤ x) (free-is p l))
+  weighted-is w = signed-sum-ext n.ground-places (λ p. w p *ℤ q p) (λ p. w p *ℤ pos (free p)) (λ p l. ap (λ x. w p *ℤ x) (free-is p l))
 
-  module _ (c : ℕ) (typed : Rule) (w : Worked) (low : n.ground ≤ c) (high : c < n.places)
+  module _ (c : ℕ) (typed : Rule) (w : Worked) (low : n.ground-places ≤ c) (high : c < n.places)
       (fresh : (i : InForce) → Memᴰ i rs → i.place ≡ c → ⊥) (is : work n typed ≡ Ok w)
       (fits : weighted-free n w.weight free ≤ℤ w.bound) where
-    derived : Derived n.ground typed w
+    derived : Derived n.ground-places typed w
     derived = work-derives n typed w is
 
     -- working looks at the ground part alone, and that is as it was
@@ -131,7 +131,7 @@ module _ (n : Net) (free g : ℕ → ℕ) (q : ℕ → ℤ) (rs : List InForce) 
 
     new-room : (p : ℕ) → p < n.places → set_free n free c w p ≤ n.limit p
     new-room p l = pick (λ x. x ≤ n.limit p) p c (positive (w.bound -ℤ weighted-free n w.weight free)) (free p)
-        (λ e. subst (λ (x : ℕ). positive (w.bound -ℤ weighted-free n w.weight free) ≤ x) (sym (s.ranges.control-limited p (subst (λ (x : ℕ). n.ground ≤ x) (sym e) low) l)) row-bounded)
+        (λ e. subst (λ (x : ℕ). positive (w.bound -ℤ weighted-free n w.weight free) ≤ x) (sym (s.ranges.control-limited p (subst (λ (x : ℕ). n.ground-places ≤ x) (sym e) low) l)) row-bounded)
         (λ d. free-fits p l)
 
     pub placed : Steady (set-net n c w) (set_free n free c w) g q (record { place = c; typed = typed; worked = w } ∷ rs)

@@ -43,16 +43,16 @@ leq-trans a b c h k = omega (arith, ints)
 
 module _ (n : Net) (free g : ℕ → ℕ) (q : ℕ → ℤ) (rs : List InForce) (s : Steady n free g q rs) where
   -- ---- sizes
-  pub in_all : (p : ℕ) → p < n.ground → p < n.places
+  pub in_all : (p : ℕ) → p < n.ground-places → p < n.places
   in_all p l = le_trans l s.ranges.places-all
 
-  mark-small : (p : ℕ) → p < n.ground → free p + taken n g p ≤ most-limit
+  mark-small : (p : ℕ) → p < n.ground-places → free p + taken n g p ≤ most-limit
   mark-small p l = go (free p) (taken n g p) (reserved n g p) (n.limit p) (sum-le n.moves (λ u. g u * n.take p u) (λ u. g u * max (n.take p u) (n.give p u)) (λ u k. mul-le-mul_left (g u) (le-max_left (n.take p u) (n.give p u)))) (s.roomy p (in_all p l)) (s.ranges.ground-limit p l).1
     where
       go : (f a b l : ℕ) → a ≤ b → f + b ≤ l → l ≤ most-limit → f + a ≤ most-limit
       go f a b l h k m = omega arith
 
-  book-small : (p : ℕ) → p < n.ground → nat_abs (q p) ≤ most-limit
+  book-small : (p : ℕ) → p < n.ground-places → nat_abs (q p) ≤ most-limit
   book-small p l = subst (λ (x : ℤ). nat_abs x ≤ most-limit) (sym (s.marked p l)) (mark-small p l)
 
   stands-small : (r : InForce) → Stands n free g q r → free r.place ≤ most-row
@@ -65,14 +65,14 @@ module _ (n : Net) (free g : ℕ → ℕ) (q : ℕ → ℤ) (rs : List InForce) 
       zero-small a e = omega arith
   control-small c (inr r) = subst (λ (x : ℕ). free x ≤ most-row) r.there (stands-small r.rule (s.rules r.rule r.stands))
 
-  max-small : (c u : ℕ) → n.ground ≤ c → max (n.take c u) (n.give c u) ≤ most-control-arc
+  max-small : (c u : ℕ) → n.ground-places ≤ c → max (n.take c u) (n.give c u) ≤ most-control-arc
   max-small c u l = max-le (s.ranges.control-arcs c u l).0 (s.ranges.control-arcs c u l).1
 
-  held_small : (c : ℕ) → n.ground ≤ c → reserved n g c ≤ most-open * most-control-arc
+  held_small : (c : ℕ) → n.ground-places ≤ c → reserved n g c ≤ most-open * most-control-arc
   held_small c l = le_trans (sum_below n.moves most-control-arc g (λ u. max (n.take c u) (n.give c u)) (λ u k. max-small c u l)) (mul-le-mul_right most-control-arc s.few)
 
   -- a control place always has room: its limit is beyond what a row, a move and all open grants can bring together
-  pub control-room : (t c : ℕ) → n.ground ≤ c → c < n.places → free c + max (n.take c t) (n.give c t) + reserved n g c ≤ n.limit c + n.take c t
+  pub control-room : (t c : ℕ) → n.ground-places ≤ c → c < n.places → free c + max (n.take c t) (n.give c t) + reserved n g c ≤ n.limit c + n.take c t
   control-room t c l k = subst (λ (x : ℕ). free c + max (n.take c t) (n.give c t) + reserved n g c ≤ x + n.take c t) (sym (s.ranges.control-limited c l k))
       (go (free c) (n.take c t) (max (n.take c t) (n.give c t)) (reserved n g c) (control-small c (s.control c l)) (max-small c t l) (held_small c l))
     where
@@ -82,7 +82,7 @@ module _ (n : Net) (free g : ℕ → ℕ) (q : ℕ → ℤ) (rs : List InForce) 
       go : (f a m h : ℕ) → f ≤ most-row → m ≤ most-control-arc → h ≤ most-open * most-control-arc → f + m + h ≤ control-limit + a
       go f a m h x y z = omega (arith, enough)
 
-  pub no-room-fault : (t c : ℕ) → n.ground ≤ c → crowded-place n free g t ≡ Some c → ⊥
+  pub no-room-fault : (t c : ℕ) → n.ground-places ≤ c → crowded-place n free g t ≡ Some c → ⊥
   no-room-fault t c l e =
       let h = lowest-some (crowded n free g t) n.places c e in
       over (n.limit c + n.take c t) (free c + max (n.take c t) (n.give c t) + reserved n g c) h.0 (control-room t c l h.1)
@@ -121,7 +121,7 @@ module _ (n : Net) (free g : ℕ → ℕ) (q : ℕ → ℤ) (rs : List InForce) 
       k.adds-up (choice-most n.moves b.choice g (raise n r.worked.weight) b.within) (subst (λ (x : ℕ). x ≤ free r.place) (k.takes t) l) b.over-bound
 
   -- ---- the lowest place that is short of tokens for t is a control place
-  module _ (t c : ℕ) (low : n.ground ≤ c) (e : short-place n free t ≡ Some c) where
+  module _ (t c : ℕ) (low : n.ground-places ≤ c) (e : short-place n free t ≡ Some c) where
     short-at : free c < n.take c t
     short-at = ltb-true (free c) (n.take c t) (lowest-some (λ p. ltb (free p) (n.take p t)) n.places c e).0
 
@@ -162,23 +162,23 @@ module _ (n : Net) (free g : ℕ → ℕ) (q : ℕ → ℤ) (rs : List InForce) 
       go true e = e
       go false e = absurd (rule-keeps r t k b (ltb-false (free r.place) (n.take r.place t) e))
 
-  pub lets-low : (t c : ℕ) → Lets n (record { q = q; v = g; rules = rs }) t → ltb (free c) (n.take c t) ≡ true → n.ground ≤ c
-  lets-low t c h e = go (ltb c n.ground) refl
+  pub lets-low : (t c : ℕ) → Lets n (record { q = q; v = g; rules = rs }) t → ltb (free c) (n.take c t) ≡ true → n.ground-places ≤ c
+  lets-low t c h e = go (ltb c n.ground-places) refl
     where
       clash : (x : ℤ) (f a k : ℕ) → x ≡ pos (f + k) → (pos a +ℤ pos k) ≤ℤ x → f < a → ⊥
       clash x f a k e h l = omega (arith, ints)
 
-      go : (z : Bool) → ltb c n.ground ≡ z → n.ground ≤ c
-      go true k = absurd (clash (q c) (free c) (n.take c t) (taken n g c) (s.marked c (ltb-true c n.ground k)) (h c (ltb-true c n.ground k)) (ltb-true (free c) (n.take c t) e))
-      go false k = ltb-false c n.ground k
+      go : (z : Bool) → ltb c n.ground-places ≡ z → n.ground-places ≤ c
+      go true k = absurd (clash (q c) (free c) (n.take c t) (taken n g c) (s.marked c (ltb-true c n.ground-places k)) (h c (ltb-true c n.ground-places k)) (ltb-true (free c) (n.take c t) e))
+      go false k = ltb-false c n.ground-places k
 
   -- ---- sums
   pub typed-holds : (r : InForce) → Stands n free g q r → weighted n r.typed.weight q ≤ℤ r.typed.bound
-  typed-holds r k = let d : Derived n.ground r.typed r.worked = stands-derived n free g q r k in
+  typed-holds r k = let d : Derived n.ground-places r.typed r.worked = stands-derived n free g q r k in
       unscale d.factor (weighted n r.typed.weight q) r.typed.bound d.factor-some
       (subst (λ (x : ℤ). (pos d.factor *ℤ weighted n r.typed.weight q) ≤ℤ x) d.blend-bound
       (leq-trans (pos d.factor *ℤ weighted n r.typed.weight q) (weighted n r.worked.weight q) r.worked.bound
-      (scaled n.ground d.factor r.worked.weight d.rest r.typed.weight q (λ i. free i + taken n g i) d.rest-low d.blend s.marked)
+      (scaled n.ground-places d.factor r.worked.weight d.rest r.typed.weight q (λ i. free i + taken n g i) d.rest-low d.blend s.marked)
       (below-bound (weighted n r.worked.weight q) r.worked.bound (free r.place) (held-open n g r.worked.weight) k.adds-up)))
 
   -- ---- grants
@@ -197,17 +197,17 @@ module _ (n : Net) (free g : ℕ → ℕ) (q : ℕ → ℤ) (rs : List InForce) 
       ∙ ok-else (refuse-unless (n.controllable t) (fault-of Uncontrollable t)) (refuse-unless (ltb (open-count n g) most-open) (fault-of TooManyOpen t)) (passes-if (n.controllable t) (fault-of Uncontrollable t) m.1)
       ∙ passes-if (ltb (open-count n g) most-open) (fault-of TooManyOpen t) (lt-ltb (open-count n g) most-open m.2)
 
-  only : (t c : ℕ) → grant-checks n g t ≡ Ok tt → n.ground ≤ c → RefusedAt (grant-answer n free g t) c → Lets n b t × LowestBroken n b t c
+  only : (t c : ℕ) → grant-checks n g t ≡ Ok tt → n.ground-places ≤ c → RefusedAt (grant-answer n free g t) c → Lets n b t × LowestBroken n b t c
   only t c e low h = go (names-cases n t (short-place n free t) (crowded-place n free g t) c (subst (λ (a : Answer). RefusedAt a c) (grant-is t e) h))
     where
       go : (short-place n free t ≡ Some c) ⊎ (crowded-place n free g t ≡ Some c) → Lets n b t × LowestBroken n b t c
       go (inl k) = (short-lets t c low k, short-lowest t c low k (s.control c low))
       go (inr k) = absurd (no-room-fault t c low k)
 
-  always : (t : ℕ) (r : InForce) → grant-checks n g t ≡ Ok tt → Lets n b t → Memᴰ r rs → Breaks n b t r → (c : ℕ) × ((n.ground ≤ c) × RefusedAt (grant-answer n free g t) c)
+  always : (t : ℕ) (r : InForce) → grant-checks n g t ≡ Ok tt → Lets n b t → Memᴰ r rs → Breaks n b t r → (c : ℕ) × ((n.ground-places ≤ c) × RefusedAt (grant-answer n free g t) c)
   always t r e lets m h = go (lowest-passes (λ i. ltb (free i) (n.take i t)) n.places r.place (s.rules r m).high (breaks-short t r (s.rules r m) h))
     where
-      go : (c : ℕ) × (short-place n free t ≡ Some c) → (c : ℕ) × ((n.ground ≤ c) × RefusedAt (grant-answer n free g t) c)
+      go : (c : ℕ) × (short-place n free t ≡ Some c) → (c : ℕ) × ((n.ground-places ≤ c) × RefusedAt (grant-answer n free g t) c)
       go x = (
         x.0,
         (
@@ -217,7 +217,7 @@ module _ (n : Net) (free g : ℕ → ℕ) (q : ℕ → ℤ) (rs : List InForce) 
       )
 
   -- ---- reports, commits and cancels
-  reported : (t c : ℕ) → n.ground ≤ c → RefusedAt (report-answer n free g t) c → ⊥
+  reported : (t c : ℕ) → n.ground-places ≤ c → RefusedAt (report-answer n free g t) c → ⊥
   reported t c low h = go (names-report t (ltb t n.moves) (not (n.controllable t)) (begin-answer n free t else-by room-answer n free g t) c h)
     where
       none : (a b : ℕ) → b ≡ 0 → ltb a b ≡ true → ⊥

@@ -130,12 +130,12 @@ quiet_at true z e k = absurd (subst T e tt)
 quiet_at false z e k = omega (arith, ints)
 
 module _ (n : Net) (r : Worked) (t p : ℕ)
-    (mv : lowest (rising n r) 0 n.moves ≡ Some t) (pl : lowest (falls n t) 0 n.ground ≡ Some p) where
+    (mv : lowest (rising n r) 0 n.moves ≡ Some t) (pl : lowest (falls n t) 0 n.ground-places ≡ Some p) where
   m : (rising n r t ≡ true) × (t < n.moves) × ((j : ℕ) → j < t → rising n r j ≡ false)
   m = lowest-some (rising n r) n.moves t mv
 
-  q : (ltb (n.give p t) (n.take p t) ≡ true) × (p < n.ground) × ((j : ℕ) → j < p → ltb (n.give j t) (n.take j t) ≡ false)
-  q = lowest-some (falls n t) n.ground p pl
+  q : (ltb (n.give p t) (n.take p t) ≡ true) × (p < n.ground-places) × ((j : ℕ) → j < p → ltb (n.give j t) (n.take j t) ≡ false)
+  q = lowest-some (falls n t) n.ground-places p pl
 
   k : (not (n.controllable t) ≡ true) × (lt_z (pos 0) (raise n r.weight t) ≡ true)
   k = and-true (not (n.controllable t)) (lt_z (pos 0) (raise n r.weight t)) m.0
@@ -159,8 +159,8 @@ module _ (n : Net) (r : Worked) (t p : ℕ)
   down_by a b e = let l : b < a = ltb-true b a e in omega (arith, ints)
 
   level-here : raise n (changed n r t p).weight t ≡ pos 0
-  level-here = absorb-sum n.ground (re / rh) (ra / rh) p r.weight (λ i. incidence n i t)
-      ∙ ap₂ (λ x y. pos (re / rh) *ℤ x +ℤ cond y (pos (ra / rh) *ℤ incidence n p t) (pos 0)) (pos-is (raise n r.weight t) k.1) (lt-ltb p n.ground q.1)
+  level-here = absorb-sum n.ground-places (re / rh) (ra / rh) p r.weight (λ i. incidence n i t)
+      ∙ ap₂ (λ x y. pos (re / rh) *ℤ x +ℤ cond y (pos (ra / rh) *ℤ incidence n p t) (pos 0)) (pos-is (raise n r.weight t) k.1) (lt-ltb p n.ground-places q.1)
       ∙ level (ra / rh) (re / rh) ra re (incidence n p t) (level-nat rh ra re (ra / rh) (re / rh) g.of-a g.of-e) (down_by (n.take p t) (n.give p t) q.0)
 
   plain : (x : ℤ) → x +ℤ pos 0 ≡ x
@@ -204,8 +204,8 @@ all-below-if : (f : ℕ → Bool) (k : ℕ) → ((i : ℕ) → i < k → f i ≡
 all-below-if f zero h = refl
 all-below-if f (suc k) h = ap₂ (λ a b. a && b) (all-below-if f k (λ i l. h i (omega arith))) (h k (omega arith))
 
-range-if : (most-w most-b : ℕ) (n : Net) (l : ℕ → ℤ) (b : ℤ) → ((p : ℕ) → p < n.ground → nat_abs (l p) ≤ most-w) → nat_abs b ≤ most-b → in-range most-w most-b n l b ≡ true
-range-if most-w most-b n l b h k = ap₂ (λ x y. x && y) (all-below-if (λ p. leb (nat_abs (l p)) most-w) n.ground (λ p m. le-leb (nat_abs (l p)) most-w (h p m))) (le-leb (nat_abs b) most-b k)
+range-if : (most-w most-b : ℕ) (n : Net) (l : ℕ → ℤ) (b : ℤ) → ((p : ℕ) → p < n.ground-places → nat_abs (l p) ≤ most-w) → nat_abs b ≤ most-b → in-range most-w most-b n l b ≡ true
+range-if most-w most-b n l b h k = ap₂ (λ x y. x && y) (all-below-if (λ p. leb (nat_abs (l p)) most-w) n.ground-places (λ p m. le-leb (nat_abs (l p)) most-w (h p m))) (le-leb (nat_abs b) most-b k)
 
 small-not : (n : Net) (w : Worked) → fits n w ≡ false → Small n w → ⊥
 small-not n w e h = both_ways (fits n w) e (range-if most-worked-weight most-worked-bound n w.weight w.bound h.weights h.bound-in)
@@ -248,17 +248,17 @@ end-says n r None e = ends-here n 0 r e
 end-says n r (Some t) e = inl (refl, record { last = r; chain = none n r; move = t; raised = positive (raise n r.weight t); rising = is-rising n r t e })
 
 module _ (n : Net) (r : Worked) (k : ℕ) (on : Worked → Result Worked Fault) (rec : (s : Worked) → RoundsSay n k s (on s)) where
-  size-says : (t p : ℕ) → lowest (rising n r) 0 n.moves ≡ Some t → lowest (falls n t) 0 n.ground ≡ Some p → (b : Bool) → fits n (changed n r t p) ≡ b → RoundsSay n (suc k) r (cond b (on (changed n r t p)) (Err (setting-fault TooLarge)))
+  size-says : (t p : ℕ) → lowest (rising n r) 0 n.moves ≡ Some t → lowest (falls n t) 0 n.ground-places ≡ Some p → (b : Bool) → fits n (changed n r t p) ≡ b → RoundsSay n (suc k) r (cond b (on (changed n r t p)) (Err (setting-fault TooLarge)))
   size-says t p e q true z = later n k r (changed n r t p) (is-round n r t p e q) (small-says n (changed n r t p) z) (on (changed n r t p)) (rec (changed n r t p))
   size-says t p e q false z = inr (inr (refl, record { count = 0; few = omega arith; last = r; chain = none n r; big = changed n r t p; round = is-round n r t p e q; not-small = small-not n (changed n r t p) z }))
 
-  place-says : (t : ℕ) → lowest (rising n r) 0 n.moves ≡ Some t → (o : Option ℕ) → lowest (falls n t) 0 n.ground ≡ o → RoundsSay n (suc k) r (at_place on n r t o)
+  place-says : (t : ℕ) → lowest (rising n r) 0 n.moves ≡ Some t → (o : Option ℕ) → lowest (falls n t) 0 n.ground-places ≡ o → RoundsSay n (suc k) r (at_place on n r t o)
   place-says t e (Some p) q = size-says t p e q (fits n (changed n r t p)) refl
-  place-says t e None q = inr (inl (refl, record { count = 0; few = omega arith; last = r; chain = none n r; move = t; raised = positive (raise n r.weight t); rising = is-rising n r t e; no_place = λ p l. ltb-false (n.give p t) (n.take p t) (lowest-none (falls n t) n.ground q p l) }))
+  place-says t e None q = inr (inl (refl, record { count = 0; few = omega arith; last = r; chain = none n r; move = t; raised = positive (raise n r.weight t); rising = is-rising n r t e; no_place = λ p l. ltb-false (n.give p t) (n.take p t) (lowest-none (falls n t) n.ground-places q p l) }))
 
   move-says : (o : Option ℕ) → lowest (rising n r) 0 n.moves ≡ o → RoundsSay n (suc k) r (at-move on n r o)
   move-says None e = ends-here n (suc k) r e
-  move-says (Some t) e = place-says t e (lowest (falls n t) 0 n.ground) refl
+  move-says (Some t) e = place-says t e (lowest (falls n t) 0 n.ground-places) refl
 
 pub rounds-say : (k : ℕ) (n : Net) (r : Worked) → RoundsSay n k r (rounds-from k n r)
 unfolding rounds-from
@@ -271,24 +271,24 @@ typed-says n r e =
     let c = and-true (in-range most-weight most-bound n r.weight r.bound) (ground-only n r) e in
     record {
       weights = range-weights most-weight most-bound n r.weight r.bound c.0;
-      elsewhere = λ p l k. off p l (ltb p n.ground) refl (all-below-says (λ i. ltb i n.ground || eqb (nat_abs (r.weight i)) 0) most-all-places c.1 p k);
+      elsewhere = λ p l k. off p l (ltb p n.ground-places) refl (all-below-says (λ i. ltb i n.ground-places || eqb (nat_abs (r.weight i)) 0) most-all-places c.1 p k);
       bound-in = range-bound most-weight most-bound n r.weight r.bound c.0;
     }
   where
     zero-abs : (z : ℤ) → nat_abs z ≡ 0 → z ≡ pos 0
     zero-abs z e = omega (arith, ints)
 
-    off : (p : ℕ) → n.ground ≤ p → (b : Bool) → ltb p n.ground ≡ b → b || eqb (nat_abs (r.weight p)) 0 ≡ true → r.weight p ≡ pos 0
-    off p l true d k = absurd (omega (arith, ltb-true p n.ground d))
+    off : (p : ℕ) → n.ground-places ≤ p → (b : Bool) → ltb p n.ground-places ≡ b → b || eqb (nat_abs (r.weight p)) 0 ≡ true → r.weight p ≡ pos 0
+    off p l true d k = absurd (omega (arith, ltb-true p n.ground-places d))
     off p l false d k = zero-abs (r.weight p) (eqb-true (nat_abs (r.weight p)) 0 k)
 
 typed-if : (n : Net) (r : Rule) → CanBeTyped n r → is-typed n r ≡ true
 typed-if n r h = ap₂ (λ x y. x && y) (range-if most-weight most-bound n r.weight r.bound h.weights h.bound-in)
-    (all-below-if (λ p. ltb p n.ground || eqb (nat_abs (r.weight p)) 0) most-all-places (λ p l. on p l (ltb p n.ground) refl))
+    (all-below-if (λ p. ltb p n.ground-places || eqb (nat_abs (r.weight p)) 0) most-all-places (λ p l. on p l (ltb p n.ground-places) refl))
   where
-    on : (p : ℕ) → p < most-all-places → (b : Bool) → ltb p n.ground ≡ b → b || eqb (nat_abs (r.weight p)) 0 ≡ true
+    on : (p : ℕ) → p < most-all-places → (b : Bool) → ltb p n.ground-places ≡ b → b || eqb (nat_abs (r.weight p)) 0 ≡ true
     on p l true d = refl
-    on p l false d = eq-eqb (nat_abs (r.weight p)) 0 (ap nat_abs (h.elsewhere p (ltb-false p n.ground d) l))
+    on p l false d = eq-eqb (nat_abs (r.weight p)) 0 (ap nat_abs (h.elsewhere p (ltb-false p n.ground-places d) l))
 
 pub working-says : WorkingSays
 working-says n typed = go (is-typed n typed) refl

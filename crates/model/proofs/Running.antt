@@ -38,9 +38,9 @@ same-trans n m k a b = record {
   same-give = λ p t l. b.same-give p t (subst (λ (x : ℕ). p < x) (sym a.same-ground) l) ∙ a.same-give p t l;
 }
 
-same-incidence : (n m : Net) → SameGround n m → (p t : ℕ) → p < m.ground → incidence n p t ≡ incidence m p t
+same-incidence : (n m : Net) → SameGround n m → (p t : ℕ) → p < m.ground-places → incidence n p t ≡ incidence m p t
 same-incidence n m a p t l =
-    let k : p < n.ground = subst (λ (x : ℕ). p < x) a.same-ground l in
+    let k : p < n.ground-places = subst (λ (x : ℕ). p < x) a.same-ground l in
     ap (λ x. pos x -ℤ pos (n.take p t)) (sym (a.same-give p t k)) ∙ ap (λ x. pos (m.give p t) -ℤ pos x) (sym (a.same-take p t k))
 
 -- the ledger and the book of a list of calls, begun over the net n

@@ -42,27 +42,27 @@ incidence-abs a b h k = omega (arith, ints)
 few-times : (k m x : ℕ) → k ≤ most-places → x ≤ k * m → x ≤ most-places * m
 few-times k m x h l = le_trans l (mul-le-mul_right m h)
 
-pub raise-abs : (n : Net) (w : ℕ → ℤ) → Ranges n → ((p : ℕ) → p < n.ground → nat_abs (w p) ≤ most-worked-weight) → (t : ℕ) → nat_abs (raise n w t) ≤ most-control-arc
+pub raise-abs : (n : Net) (w : ℕ → ℤ) → Ranges n → ((p : ℕ) → p < n.ground-places → nat_abs (w p) ≤ most-worked-weight) → (t : ℕ) → nat_abs (raise n w t) ≤ most-control-arc
 raise-abs n w R h t =
-    few-times n.ground (most-worked-weight * most-arc) (nat_abs (raise n w t)) R.ground-few
-    (signed-sum-abs n.ground (most-worked-weight * most-arc) (λ p. w p *ℤ incidence n p t)
+    few-times n.ground-places (most-worked-weight * most-arc) (nat_abs (raise n w t)) R.ground-few
+    (signed-sum-abs n.ground-places (most-worked-weight * most-arc) (λ p. w p *ℤ incidence n p t)
     (λ p l. abs-mul-le (w p) (incidence n p t) most-worked-weight most-arc (h p l) (incidence-abs (n.give p t) (n.take p t) (R.ground-arcs p t l).1 (R.ground-arcs p t l).0)))
 
 -- the most that a worked rule can weigh a marking at
 abbrev pub most-weighted : ℕ
 most-weighted = most-places * (most-worked-weight * most-limit)
 
-pub weighted-abs : (n : Net) (w q : ℕ → ℤ) → Ranges n → ((p : ℕ) → p < n.ground → nat_abs (w p) ≤ most-worked-weight) → ((p : ℕ) → p < n.ground → nat_abs (q p) ≤ most-limit) → nat_abs (weighted n w q) ≤ most-weighted
+pub weighted-abs : (n : Net) (w q : ℕ → ℤ) → Ranges n → ((p : ℕ) → p < n.ground-places → nat_abs (w p) ≤ most-worked-weight) → ((p : ℕ) → p < n.ground-places → nat_abs (q p) ≤ most-limit) → nat_abs (weighted n w q) ≤ most-weighted
 weighted-abs n w q R h k =
-    few-times n.ground (most-worked-weight * most-limit) (nat_abs (weighted n w q)) R.ground-few
-    (signed-sum-abs n.ground (most-worked-weight * most-limit) (λ p. w p *ℤ q p) (λ p l. abs-mul-le (w p) (q p) most-worked-weight most-limit (h p l) (k p l)))
+    few-times n.ground-places (most-worked-weight * most-limit) (nat_abs (weighted n w q)) R.ground-few
+    (signed-sum-abs n.ground-places (most-worked-weight * most-limit) (λ p. w p *ℤ q p) (λ p l. abs-mul-le (w p) (q p) most-worked-weight most-limit (h p l) (k p l)))
 
 signed-sum-none : (k : ℕ) (f : ℕ → ℤ) → ((i : ℕ) → i < k → f i ≡ pos 0) → signed-sum k f ≡ pos 0
 signed-sum-none zero f h = refl
 signed-sum-none (suc k) f h = omega (arith, ints, signed-sum-none k f (λ i l. h i (omega arith)), h k (omega arith))
 
 pub raise-none : (n : Net) (w : ℕ → ℤ) → Ranges n → (t : ℕ) → n.moves ≤ t → raise n w t ≡ pos 0
-raise-none n w R t l = signed-sum-none n.ground (λ p. w p *ℤ incidence n p t)
+raise-none n w R t l = signed-sum-none n.ground-places (λ p. w p *ℤ incidence n p t)
     (λ p h. ap (λ d. w p *ℤ d) (no_change (n.give p t) (n.take p t) (R.no_move p t l).1 (R.no_move p t l).0) ∙ *ℤ-zero (w p))
   where
     no_change : (a b : ℕ) → a ≡ 0 → b ≡ 0 → pos a -ℤ pos b ≡ pos 0
@@ -71,7 +71,7 @@ raise-none n w R t l = signed-sum-none n.ground (λ p. w p *ℤ incidence n p t)
 -- ---- the net and the tokens after the setting
 abbrev pub set-net : Net → ℕ → Worked → Net
 set-net n c w = record {
-  ground = n.ground;
+  ground-places = n.ground-places;
   places = n.places;
   moves = n.moves;
   controllable = n.controllable;
@@ -85,15 +85,15 @@ set-net n c w = record {
 abbrev pub set_free : Net → (ℕ → ℕ) → ℕ → Worked → ℕ → ℕ
 set_free n free c w i = cond (eqb i c) (positive (w.bound -ℤ weighted-free n w.weight free)) (free i)
 
-module _ (n : Net) (c : ℕ) (w : Worked) (low : n.ground ≤ c) where
-  below : (p : ℕ) → p < n.ground → p ≡ c → ⊥
+module _ (n : Net) (c : ℕ) (w : Worked) (low : n.ground-places ≤ c) where
+  below : (p : ℕ) → p < n.ground-places → p ≡ c → ⊥
   below p l e = omega arith
 
-  set-change : (p t : ℕ) → p < n.ground → incidence (set-net n c w) p t ≡ incidence n p t
+  set-change : (p t : ℕ) → p < n.ground-places → incidence (set-net n c w) p t ≡ incidence n p t
   set-change p t l = ap (λ b. pos (cond b (negative (raise n w.weight t)) (n.give p t)) -ℤ pos (cond b (positive (raise n w.weight t)) (n.take p t))) (ne_eqb p c (below p l))
 
   pub set-raise : (l : ℕ → ℤ) (t : ℕ) → raise (set-net n c w) l t ≡ raise n l t
-  set-raise l t = signed-sum-ext n.ground (λ p. l p *ℤ incidence (set-net n c w) p t) (λ p. l p *ℤ incidence n p t) (λ p h. ap (λ d. l p *ℤ d) (set-change p t h))
+  set-raise l t = signed-sum-ext n.ground-places (λ p. l p *ℤ incidence (set-net n c w) p t) (λ p. l p *ℤ incidence n p t) (λ p h. ap (λ d. l p *ℤ d) (set-change p t h))
 
   pub set_same : SameGround n (set-net n c w)
   set_same = record {
@@ -104,7 +104,7 @@ module _ (n : Net) (c : ℕ) (w : Worked) (low : n.ground ≤ c) where
     same-give = λ p t l. pick_other p c (negative (raise n w.weight t)) (n.give p t) (below p l);
   }
 
-  module _ (R : Ranges n) (high : c < n.places) (small : (p : ℕ) → p < n.ground → nat_abs (w.weight p) ≤ most-worked-weight)
+  module _ (R : Ranges n) (high : c < n.places) (small : (p : ℕ) → p < n.ground-places → nat_abs (w.weight p) ≤ most-worked-weight)
       (no-rise : (t : ℕ) → t < n.moves → n.controllable t ≡ false → raise n w.weight t ≤ℤ pos 0) where
     untaken : (t : ℕ) → n.controllable t ≡ false → positive (raise n w.weight t) ≡ 0
     untaken t e = go (ltb t n.moves) refl

@@ -61,8 +61,8 @@ work-on-ground n m s typed = working.work-on-ground n m s typed
 
 pub worked-implies : WorkedImplies
 worked-implies n typed w e m h =
-    let d : Derived n.ground typed w = working.work-derives n typed w e in
+    let d : Derived n.ground-places typed w = working.work-derives n typed w e in
     unscale d.factor (weighted-free n typed.weight m) typed.bound d.factor-some
     (subst (λ (x : ℤ). (pos d.factor *ℤ weighted-free n typed.weight m) ≤ℤ x) d.blend-bound
     (leq-trans (pos d.factor *ℤ weighted-free n typed.weight m) (weighted-free n w.weight m) w.bound
-    (scaled n.ground d.factor w.weight d.rest typed.weight (λ i. pos (m i)) m d.rest-low d.blend (λ p l. refl)) h))
+    (scaled n.ground-places d.factor w.weight d.rest typed.weight (λ i. pos (m i)) m d.rest-low d.blend (λ p l. refl)) h))

@@ -15,14 +15,14 @@ abbrev pub held-open : Net → (ℕ → ℕ) → (ℕ → ℤ) → ℕ
 held-open n g w = sum n.moves (λ t. g t * positive (raise n w t))
 
 pub record Stands (n : Net) (free g : ℕ → ℕ) (q : ℕ → ℤ) (r : InForce) : Type 0 where
-  pub low : n.ground ≤ r.place
+  pub low : n.ground-places ≤ r.place
   pub high : r.place < n.places
   pub takes : (t : ℕ) → n.take r.place t ≡ positive (raise n r.worked.weight t)
   pub gives : (t : ℕ) → n.give r.place t ≡ negative (raise n r.worked.weight t)
   pub adds-up : (weighted n r.worked.weight q +ℤ pos (free r.place)) +ℤ pos (held-open n g r.worked.weight) ≡ r.worked.bound
   pub working : work n r.typed ≡ Ok r.worked
 
-pub stands-derived : (n : Net) (free g : ℕ → ℕ) (q : ℕ → ℤ) (r : InForce) → Stands n free g q r → Derived n.ground r.typed r.worked
+pub stands-derived : (n : Net) (free g : ℕ → ℕ) (q : ℕ → ℤ) (r : InForce) → Stands n free g q r → Derived n.ground-places r.typed r.worked
 stands-derived n free g q r k = work-derives n r.typed r.worked k.working
 
 pub record Steady (n : Net) (free g : ℕ → ℕ) (q : ℕ → ℤ) (rs : List InForce) : Type 0 where
@@ -30,12 +30,12 @@ pub record Steady (n : Net) (free g : ℕ → ℕ) (q : ℕ → ℤ) (rs : List 
   pub roomy : (p : ℕ) → p < n.places → free p + reserved n g p ≤ n.limit p
   pub few : sum n.moves g ≤ most-open
   pub beyond : (t : ℕ) → n.moves ≤ t → g t ≡ 0
-  pub marked : (p : ℕ) → p < n.ground → q p ≡ pos (free p + taken n g p)
+  pub marked : (p : ℕ) → p < n.ground-places → q p ≡ pos (free p + taken n g p)
   pub rules : (r : InForce) → Memᴰ r rs → Stands n free g q r
-  pub control : (c : ℕ) → n.ground ≤ c → BlankPlace n free c ⊎ Ruled rs c
+  pub control : (c : ℕ) → n.ground-places ≤ c → BlankPlace n free c ⊎ Ruled rs c
 
 -- how rows stand in the top layer
 pub record Shape (p : Pile) (rs : List InForce) : Type 0 where
   pub based : Ranges p.below
-  pub there : (r : ℕ) → r < row_count p.top → is-shut (row_count p.top) p.below ≡ false → ((pile-net p).ground ≤ p.below.places) × (row-place p r < (pile-net p).places)
+  pub there : (r : ℕ) → r < row_count p.top → is-shut (row_count p.top) p.below ≡ false → ((pile-net p).ground-places ≤ p.below.places) × (row-place p r < (pile-net p).places)
   pub settled : (i : InForce) → Memᴰ i rs → (i.place < p.below.places) ⊎ ((k : ℕ) × (i.place ≡ row-place p k) × ((p.rows k).in_use ≡ true))

@@ -125,7 +125,7 @@ module _ (p : Pile) (R : Ranges p.below) (r : ℕ) (here : r < row_count p.top) 
 
   -- ---- a setting is a change of one place
   abbrev with-arcs : (ℕ → ℕ → ℕ) → (ℕ → ℕ → ℕ) → Net
-  with-arcs take give = record { ground = n.ground; places = n.places + size; moves = n.moves; controllable = n.controllable; take = take; give = give; limit = (open-net size n p.rows).limit; layer = (open-net size n p.rows).layer; row = (open-net size n p.rows).row }
+  with-arcs take give = record { ground-places = n.ground-places; places = n.places + size; moves = n.moves; controllable = n.controllable; take = take; give = give; limit = (open-net size n p.rows).limit; layer = (open-net size n p.rows).layer; row = (open-net size n p.rows).row }
 
   take-set : (i t : ℕ) → (open-net size n (with-rule p r w).rows).take i t ≡ cond (eqb i c) (positive (raise (pile-net p) w.weight t)) ((open-net size n p.rows).take i t)
   take-set i t = changed_row (λ x. masked-take n x t) (n.take i t) n.places size p.rows r new i here
@@ -138,7 +138,7 @@ module _ (p : Pile) (R : Ranges p.below) (r : ℕ) (here : r < row_count p.top) 
   -- the net k with the arcs of the rule at c, reckoned over the net m
   abbrev set-from : Net → Net → Net
   set-from m k = record {
-    ground = k.ground;
+    ground-places = k.ground-places;
     places = k.places;
     moves = k.moves;
     controllable = k.controllable;
@@ -161,11 +161,11 @@ module _ (p : Pile) (R : Ranges p.below) (r : ℕ) (here : r < row_count p.top) 
 
   -- ---- the invariant
   module _ (g : ℕ → ℕ) (q : ℕ → ℤ) (rs : List InForce) (s : Steady (pile-net p) (pile-free p) g q rs) (h : Shape p rs) where
-    spot : ((pile-net p).ground ≤ n.places) × (c < (pile-net p).places)
+    spot : ((pile-net p).ground-places ≤ n.places) × (c < (pile-net p).places)
     spot = h.there r here says.open-layer
 
-    pub set-low : (pile-net p).ground ≤ c
-    set-low = up (pile-net p).ground n.places r spot.0
+    pub set-low : (pile-net p).ground-places ≤ c
+    set-low = up (pile-net p).ground-places n.places r spot.0
       where
         up : (a b c : ℕ) → a ≤ b → a ≤ b + c
         up a b c h = omega arith
@@ -179,6 +179,6 @@ module _ (p : Pile) (R : Ranges p.below) (r : ℕ) (here : r < row_count p.top) 
     pub set-shape : Shape (with-rule p r w) (in-force p r typed w ∷ rs)
     set-shape = record {
       based = h.based;
-      there = λ k l e. subst (λ (m : Net). (m.ground ≤ n.places) × (row-place p k < m.places)) (sym net-set) (h.there k l e);
+      there = λ k l e. subst (λ (m : Net). (m.ground-places ≤ n.places) × (row-place p k < m.places)) (sym net-set) (h.there k l e);
       settled = λ i m. settled-new p r typed w rs h i (Memᴰ.cases_cons m);
     }

@@ -26,11 +26,11 @@ pub all-below-says : (f : ℕ → Bool) (k : ℕ) → all-below f k ≡ true →
 all-below-says f zero e i l = absurd (omega arith)
 all-below-says f (suc k) e i l = below-go f k i (and-true (all-below f k) (f k) e).1 (λ m. all-below-says f k (and-true (all-below f k) (f k) e).0 i m) l (ltb i k) refl
 
-pub range-weights : (w b : ℕ) (n : Net) (l : ℕ → ℤ) (x : ℤ) → in-range w b n l x ≡ true → (p : ℕ) → p < n.ground → nat_abs (l p) ≤ w
-range-weights w b n l x e p k = leb-true (nat_abs (l p)) w (all-below-says (λ i. leb (nat_abs (l i)) w) n.ground (and-true (all-below (λ i. leb (nat_abs (l i)) w) n.ground) (leb (nat_abs x) b) e).0 p k)
+pub range-weights : (w b : ℕ) (n : Net) (l : ℕ → ℤ) (x : ℤ) → in-range w b n l x ≡ true → (p : ℕ) → p < n.ground-places → nat_abs (l p) ≤ w
+range-weights w b n l x e p k = leb-true (nat_abs (l p)) w (all-below-says (λ i. leb (nat_abs (l i)) w) n.ground-places (and-true (all-below (λ i. leb (nat_abs (l i)) w) n.ground-places) (leb (nat_abs x) b) e).0 p k)
 
 pub range-bound : (w b : ℕ) (n : Net) (l : ℕ → ℤ) (x : ℤ) → in-range w b n l x ≡ true → nat_abs x ≤ b
-range-bound w b n l x e = leb-true (nat_abs x) b (and-true (all-below (λ i. leb (nat_abs (l i)) w) n.ground) (leb (nat_abs x) b) e).1
+range-bound w b n l x e = leb-true (nat_abs x) b (and-true (all-below (λ i. leb (nat_abs (l i)) w) n.ground-places) (leb (nat_abs x) b) e).1
 
 divisor_range : (k a e : ℕ) → (1 ≤ divisor k a e) × (divisor k a e ≤ max 1 k)
 divisor_range zero a e = omega arith
@@ -68,7 +68,7 @@ at_low : (b : Bool) (x : ℕ) → pos 0 ≤ℤ cond b (pos x) (pos 0)
 at_low true x = omega (arith, ints)
 at_low false x = omega (arith, ints)
 
-round-derived : (n : Net) (typed : Rule) (r : Worked) (p h a e : ℕ) → Derived n.ground typed r → p < n.ground → 1 ≤ e / h → fits n (absorbed r p h a e) ≡ true → Derived n.ground typed (absorbed r p h a e)
+round-derived : (n : Net) (typed : Rule) (r : Worked) (p h a e : ℕ) → Derived n.ground-places typed r → p < n.ground-places → 1 ≤ e / h → fits n (absorbed r p h a e) ≡ true → Derived n.ground-places typed (absorbed r p h a e)
 round-derived n typed r p h a e s l some ok = record {
   weights-in = range-weights most-worked-weight most-worked-bound n (absorbed r p h a e).weight (absorbed r p h a e).bound ok;
   weights-out = λ off i k. out i (ne_eqb i p (λ q. omega arith)) (s.weights-out off i k);
@@ -94,7 +94,7 @@ round-derived n typed r p h a e s l some ok = record {
 
 -- ---- all rounds-from
 record Done (n : Net) (typed : Rule) (w : Worked) : Type 0 where
-  derived : Derived n.ground typed w
+  derived : Derived n.ground-places typed w
   still : (t : ℕ) → t < n.moves → rising n w t ≡ false
 
 bad : (f : Fault) (w : Worked) → ◌≡◌ {A = Result Worked Fault} (Err f) (Ok w) → ⊥
@@ -107,14 +107,14 @@ cond-ok : (b : Bool) (x : Result Worked Fault) (f : Fault) (w : Worked) → cond
 cond-ok true x f w e = (refl, e)
 cond-ok false x f w e = absurd (bad f w e)
 
-done-here : (n : Net) (typed : Rule) (r w : Worked) → Derived n.ground typed r → lowest (rising n r) 0 n.moves ≡ None → r ≡ w → Done n typed w
+done-here : (n : Net) (typed : Rule) (r w : Worked) → Derived n.ground-places typed r → lowest (rising n r) 0 n.moves ≡ None → r ≡ w → Done n typed w
 done-here n typed r w s none e = subst (λ (x : Worked). Done n typed x) e (record { derived = s; still = lowest-none (rising n r) n.moves none })
 
-place-done : (n : Net) (typed : Rule) (r w : Worked) (on : Worked → Result Worked Fault) → ((r : Worked) → Derived n.ground typed r → on r ≡ Ok w → Done n typed w) → Derived n.ground typed r →
-    (t : ℕ) (o : Option ℕ) → lowest (falls n t) 0 n.ground ≡ o → at_place on n r t o ≡ Ok w → Done n typed w
+place-done : (n : Net) (typed : Rule) (r w : Worked) (on : Worked → Result Worked Fault) → ((r : Worked) → Derived n.ground-places typed r → on r ≡ Ok w → Done n typed w) → Derived n.ground-places typed r →
+    (t : ℕ) (o : Option ℕ) → lowest (falls n t) 0 n.ground-places ≡ o → at_place on n r t o ≡ Ok w → Done n typed w
 place-done n typed r w on rec s t None q e = absurd (bad (setting-fault NotAbsorbed) w e)
 place-done n typed r w on rec s t (Some p) q e =
-    let f = lowest-some (falls n t) n.ground p q in
+    let f = lowest-some (falls n t) n.ground-places p q in
     let c = cond-ok (fits n (changed n r t p)) (on (changed n r t p)) (setting-fault TooLarge) w e in
     rec (changed n r t p)
     (round-derived n typed r p (divisor (n.take p t - n.give p t) (positive (raise n r.weight t)) (n.take p t - n.give p t)) (positive (raise n r.weight t)) (n.take p t - n.give p t)
@@ -124,21 +124,21 @@ place-done n typed r w on rec s t (Some p) q e =
     more : (a b : ℕ) → ltb a b ≡ true → 1 ≤ b - a
     more a b e = omega (arith, ltb-true a b e)
 
-move-done : (n : Net) (typed : Rule) (r w : Worked) (on : Worked → Result Worked Fault) → ((r : Worked) → Derived n.ground typed r → on r ≡ Ok w → Done n typed w) → Derived n.ground typed r →
+move-done : (n : Net) (typed : Rule) (r w : Worked) (on : Worked → Result Worked Fault) → ((r : Worked) → Derived n.ground-places typed r → on r ≡ Ok w → Done n typed w) → Derived n.ground-places typed r →
     (o : Option ℕ) → lowest (rising n r) 0 n.moves ≡ o → at-move on n r o ≡ Ok w → Done n typed w
 move-done n typed r w on rec s None q e = done-here n typed r w s q (same_ok r w e)
-move-done n typed r w on rec s (Some t) q e = place-done n typed r w on rec s t (lowest (falls n t) 0 n.ground) refl e
+move-done n typed r w on rec s (Some t) q e = place-done n typed r w on rec s t (lowest (falls n t) 0 n.ground-places) refl e
 
-end-done : (n : Net) (typed : Rule) (r w : Worked) → Derived n.ground typed r → (o : Option ℕ) → lowest (rising n r) 0 n.moves ≡ o → at-end r o ≡ Ok w → Done n typed w
+end-done : (n : Net) (typed : Rule) (r w : Worked) → Derived n.ground-places typed r → (o : Option ℕ) → lowest (rising n r) 0 n.moves ≡ o → at-end r o ≡ Ok w → Done n typed w
 end-done n typed r w s None q e = done-here n typed r w s q (same_ok r w e)
 end-done n typed r w s (Some t) q e = absurd (bad (setting-fault TooManyRounds) w e)
 
-rounds-done : (k : ℕ) (n : Net) (typed : Rule) (w r : Worked) → Derived n.ground typed r → rounds-from k n r ≡ Ok w → Done n typed w
+rounds-done : (k : ℕ) (n : Net) (typed : Rule) (w r : Worked) → Derived n.ground-places typed r → rounds-from k n r ≡ Ok w → Done n typed w
 unfolding rounds-from
 rounds-done zero n typed w r s e = end-done n typed r w s (lowest (rising n r) 0 n.moves) refl e
 rounds-done (suc k) n typed w r s e = move-done n typed r w (rounds-from k n) (λ x. rounds-done k n typed w x) s (lowest (rising n r) 0 n.moves) refl e
 
-typed-derived : (n : Net) (r : Rule) → in-range most-weight most-bound n r.weight r.bound ≡ true → Derived n.ground r (unchanged r)
+typed-derived : (n : Net) (r : Rule) → in-range most-weight most-bound n r.weight r.bound ≡ true → Derived n.ground-places r (unchanged r)
 typed-derived n r e = record {
   weights-in = λ p l. wide (nat_abs (r.weight p)) (range-weights most-weight most-bound n r.weight r.bound e p l);
   weights-out = λ off. off;
@@ -176,11 +176,11 @@ not-rising false z e k = omega (arith, ints)
 
 -- ---- the ground alone is looked at
 module _ (n m : Net) (s : SameGround n m) where
-  pub same-change : (p t : ℕ) → p < n.ground → incidence m p t ≡ incidence n p t
+  pub same-change : (p t : ℕ) → p < n.ground-places → incidence m p t ≡ incidence n p t
   same-change p t l = ap₂ (λ a b. pos a -ℤ pos b) (s.same-give p t l) (s.same-take p t l)
 
   pub same-raise : (l : ℕ → ℤ) (t : ℕ) → raise m l t ≡ raise n l t
-  same-raise l t = ap (λ g. signed-sum g (λ p. l p *ℤ incidence m p t)) s.same-ground ∙ signed-sum-ext n.ground (λ p. l p *ℤ incidence m p t) (λ p. l p *ℤ incidence n p t) (λ p h. ap (λ x. l p *ℤ x) (same-change p t h))
+  same-raise l t = ap (λ g. signed-sum g (λ p. l p *ℤ incidence m p t)) s.same-ground ∙ signed-sum-ext n.ground-places (λ p. l p *ℤ incidence m p t) (λ p. l p *ℤ incidence n p t) (λ p h. ap (λ x. l p *ℤ x) (same-change p t h))
 
   same-rising : (r : Worked) (t : ℕ) → rising m r t ≡ rising n r t
   same-rising r t = ap₂ (λ b z. not b && lt_z (pos 0) z) (s.same-controllable t) (same-raise r.weight t)
@@ -188,29 +188,29 @@ module _ (n m : Net) (s : SameGround n m) where
   same-moving : (r : Worked) → lowest (rising m r) 0 m.moves ≡ lowest (rising n r) 0 n.moves
   same-moving r = ap (λ k. lowest (rising m r) 0 k) s.same-moves ∙ lowest-ext (rising m r) (rising n r) 0 n.moves (λ t a b. same-rising r t)
 
-  same-placing : (t : ℕ) → lowest (falls m t) 0 m.ground ≡ lowest (falls n t) 0 n.ground
+  same-placing : (t : ℕ) → lowest (falls m t) 0 m.ground-places ≡ lowest (falls n t) 0 n.ground-places
   same-placing t = ap (λ k. lowest (falls m t) 0 k) s.same-ground
-      ∙ lowest-ext (falls m t) (falls n t) 0 n.ground (λ p a b. ap₂ (λ x y. ltb x y) (s.same-give p t (in-it p b)) (s.same-take p t (in-it p b)))
+      ∙ lowest-ext (falls m t) (falls n t) 0 n.ground-places (λ p a b. ap₂ (λ x y. ltb x y) (s.same-give p t (in-it p b)) (s.same-take p t (in-it p b)))
     where
-      in-it : (p : ℕ) → p < 0 + n.ground → p < n.ground
+      in-it : (p : ℕ) → p < 0 + n.ground-places → p < n.ground-places
       in-it p h = omega arith
 
   same-range : (w b : ℕ) (l : ℕ → ℤ) (x : ℤ) → in-range w b m l x ≡ in-range w b n l x
   same-range w b l x = ap (λ g. all-below (λ p. leb (nat_abs (l p)) w) g && leb (nat_abs x) b) s.same-ground
 
-  same-changed : (r : Worked) (t p : ℕ) → p < n.ground → changed m r t p ≡ changed n r t p
+  same-changed : (r : Worked) (t p : ℕ) → p < n.ground-places → changed m r t p ≡ changed n r t p
   same-changed r t p l = ap₂ (λ a e. absorbed r p (divisor e (positive a) e) (positive a) e) (same-raise r.weight t) (ap₂ (λ x y. x - y) (s.same-take p t l) (s.same-give p t l))
 
-  same-at-place : (on on' : Worked → Result Worked Fault) → ((r : Worked) → on r ≡ on' r) → (r : Worked) (t : ℕ) (o : Option ℕ) → lowest (falls n t) 0 n.ground ≡ o → at_place on m r t o ≡ at_place on' n r t o
+  same-at-place : (on on' : Worked → Result Worked Fault) → ((r : Worked) → on r ≡ on' r) → (r : Worked) (t : ℕ) (o : Option ℕ) → lowest (falls n t) 0 n.ground-places ≡ o → at_place on m r t o ≡ at_place on' n r t o
   same-at-place on on' h r t None q = refl
   same-at-place on on' h r t (Some p) q =
-      let e : changed m r t p ≡ changed n r t p = same-changed r t p (lowest-some (falls n t) n.ground p q).1 in
+      let e : changed m r t p ≡ changed n r t p = same-changed r t p (lowest-some (falls n t) n.ground-places p q).1 in
       ap (λ x. cond (fits m x) (on x) (Err (setting-fault TooLarge))) e
       ∙ ap₂ (λ b x. cond b x (Err (setting-fault TooLarge))) (same-range most-worked-weight most-worked-bound (changed n r t p).weight (changed n r t p).bound) (h (changed n r t p))
 
   same-at-move : (on on' : Worked → Result Worked Fault) → ((r : Worked) → on r ≡ on' r) → (r : Worked) (o : Option ℕ) → at-move on m r o ≡ at-move on' n r o
   same-at-move on on' h r None = refl
-  same-at-move on on' h r (Some t) = ap (at_place on m r t) (same-placing t) ∙ same-at-place on on' h r t (lowest (falls n t) 0 n.ground) refl
+  same-at-move on on' h r (Some t) = ap (at_place on m r t) (same-placing t) ∙ same-at-place on on' h r t (lowest (falls n t) 0 n.ground-places) refl
 
   same-rounds : (k : ℕ) (r : Worked) → rounds-from k m r ≡ rounds-from k n r
   unfolding rounds-from
@@ -220,7 +220,7 @@ module _ (n m : Net) (s : SameGround n m) where
   pub work-on-ground : (r : Rule) → work m r ≡ work n r
   work-on-ground r = ap₂ (λ b x. cond b x (Err (setting-fault NotTyped))) (ap₂ (λ a b. a && b) (same-range most-weight most-bound r.weight r.bound) (ap (λ g. all-below (λ p. ltb p g || eqb (nat_abs (r.weight p)) 0) most-all-places) s.same-ground)) (same-rounds most-rounds (unchanged r))
 
-pub work-derives : (n : Net) (typed : Rule) (w : Worked) → work n typed ≡ Ok w → Derived n.ground typed w
+pub work-derives : (n : Net) (typed : Rule) (w : Worked) → work n typed ≡ Ok w → Derived n.ground-places typed w
 work-derives n typed w e = (work-done n typed w e).derived
 
 pub work-quiets : (n : Net) (typed : Rule) (w : Worked) → work n typed ≡ Ok w → (t : ℕ) → t < n.moves → n.controllable t ≡ false → raise n w.weight t ≤ℤ pos 0

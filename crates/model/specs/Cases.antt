@@ -49,7 +49,7 @@ count-moves (m ∷ ms) = suc (count-moves ms)
 
 abbrev pub small-net : List ℕ → List Move → Net
 small-net limits moves = record {
-  ground = count-places limits;
+  ground-places = count-places limits;
   places = count-places limits;
   moves = count-moves moves;
   controllable = λ t. (nth-move moves t).steered;
@@ -108,7 +108,7 @@ AsMarked (c ∷ cs) = (c.came ≡ c.must) × AsMarked cs
 
 -- a rule worked over a net
 abbrev pub works : Net → Rule → List Outcome
-works n r = working-of n.ground (work n r) ∷ []
+works n r = working-of n.ground-places (work n r) ∷ []
 
 -- a rule set on a monitor over the plant, and the tokens of its row after
 abbrev pub monitored-by : Net → (ℕ → ℕ) → Rule → Pile

@@ -68,26 +68,26 @@ BeginFinish = (n : Net) (free : ℕ → ℕ) (t : ℕ) → begin-answer n free t
 -- ==== rules
 
 pub record SameGround (n m : Net) : Type 0 where
-  pub same-ground : m.ground ≡ n.ground
+  pub same-ground : m.ground-places ≡ n.ground-places
   pub same-moves : m.moves ≡ n.moves
   pub same-controllable : (t : ℕ) → m.controllable t ≡ n.controllable t
-  pub same-take : (p t : ℕ) → p < n.ground → m.take p t ≡ n.take p t
-  pub same-give : (p t : ℕ) → p < n.ground → m.give p t ≡ n.give p t
+  pub same-take : (p t : ℕ) → p < n.ground-places → m.take p t ≡ n.take p t
+  pub same-give : (p t : ℕ) → p < n.ground-places → m.give p t ≡ n.give p t
 
-pub record Derived (ground : ℕ) (typed : Rule) (w : Worked) : Type 0 where
+pub record Derived (ground-places : ℕ) (typed : Rule) (w : Worked) : Type 0 where
   pub factor : ℕ
   pub factor-some : 1 ≤ factor
   pub rest : ℕ → ℤ
-  pub rest-low : (p : ℕ) → p < ground → pos 0 ≤ℤ rest p
-  pub blend : (p : ℕ) → p < ground → w.weight p ≡ rest p +ℤ pos factor *ℤ typed.weight p
+  pub rest-low : (p : ℕ) → p < ground-places → pos 0 ≤ℤ rest p
+  pub blend : (p : ℕ) → p < ground-places → w.weight p ≡ rest p +ℤ pos factor *ℤ typed.weight p
   pub blend-bound : w.bound ≡ pos factor *ℤ (typed.bound +ℤ pos 1) -ℤ pos 1
   -- the ranges of both
-  pub weights-in : (p : ℕ) → p < ground → unsigned_abs (w.weight p) ≤ most-worked-weight
+  pub weights-in : (p : ℕ) → p < ground-places → unsigned_abs (w.weight p) ≤ most-worked-weight
   pub bound-in : unsigned_abs w.bound ≤ most-worked-bound
-  pub typed-weights-in : (p : ℕ) → p < ground → unsigned_abs (typed.weight p) ≤ most-weight
+  pub typed-weights-in : (p : ℕ) → p < ground-places → unsigned_abs (typed.weight p) ≤ most-weight
   pub typed-bound-in : unsigned_abs typed.bound ≤ most-bound
   -- no place off the ground weighs
-  pub weights-out : ((p : ℕ) → ground ≤ p → typed.weight p ≡ pos 0) → (p : ℕ) → ground ≤ p → w.weight p ≡ pos 0
+  pub weights-out : ((p : ℕ) → ground-places ≤ p → typed.weight p ≡ pos 0) → (p : ℕ) → ground-places ≤ p → w.weight p ≡ pos 0
 
 -- every answer of working is a chain of rounds: worked after at most 64 and no move rises; 22 after exactly 64, and one still
 -- rises; 20 and 21 after fewer; 25 exactly where the rule is none that can be typed; and no other answer
@@ -97,7 +97,7 @@ WorkingSays = (n : Net) (typed : Rule) → WorkSays n typed (work n typed)
 -- what a round makes of a rule, for its move and place, is a round: lowest move, lowest place, greatest common divisor
 abbrev pub IsRound : Type 0
 IsRound = (n : Net) (w : Worked) (t p : ℕ) → lowest (rising n w) 0 n.moves ≡ Some t →
-    lowest (falls n t) 0 n.ground ≡ Some p → Round n w (changed n w t p)
+    lowest (falls n t) 0 n.ground-places ≡ Some p → Round n w (changed n w t p)
 
 -- the divisor that a round uses is the greatest common divisor
 abbrev pub DivisorGcd : Type 0
@@ -105,7 +105,7 @@ DivisorGcd = (a e : ℕ) → 1 ≤ e → Gcd a e (divisor e a e)
 
 -- L' = R1 + r·L and b' = r·(b + 1) − 1, with r ≥ 1 and no entry of R1 negative
 abbrev pub WorkDerives : Type 0
-WorkDerives = (n : Net) (typed : Rule) (w : Worked) → work n typed ≡ Ok w → Derived n.ground typed w
+WorkDerives = (n : Net) (typed : Rule) (w : Worked) → work n typed ≡ Ok w → Derived n.ground-places typed w
 
 -- no uncontrollable move raises a worked rule
 abbrev pub WorkQuiets : Type 0
@@ -238,7 +238,7 @@ abbrev pub KeepsRules : Net → Book → ℕ → Type 0
 KeepsRules n b t = (r : InForce) → Memᴰ r b.rules → Breaks n b t r → ⊥
 
 abbrev pub HasRoom : Net → Book → ℕ → Type 0
-HasRoom n b t = (p : ℕ) → p < n.ground → Overfills n b t p → ⊥
+HasRoom n b t = (p : ℕ) → p < n.ground-places → Overfills n b t p → ⊥
 
 pub record GrantAccepted (l : Ledger) (b : Book) : Type 0 where
   pub when : (t : ℕ) → MayAsk (net-under l) b t → Lets (net-under l) b t → KeepsRules (net-under l) b t →
@@ -299,13 +299,13 @@ pub record Standing (l : Ledger) (b : Book) : Type 0 where
   pub within : (p : ℕ) → p < (net-under l).places → free-under l p + reserved (net-under l) l.opened p ≤ (net-under l).limit p
   pub few : open-count (net-under l) l.opened ≤ most-open
   -- each rule of the book has a control place, with the arcs −L'·D
-  pub is_control : (r : InForce) → Memᴰ r b.rules → ((net-under l).ground ≤ r.place) × (r.place < (net-under l).places)
+  pub is_control : (r : InForce) → Memᴰ r b.rules → ((net-under l).ground-places ≤ r.place) × (r.place < (net-under l).places)
   pub arcs : (r : InForce) → Memᴰ r b.rules → (t : ℕ) →
       incidence (net-under l) r.place t ≡ neg_ℤ (raise (net-under l) r.worked.weight t)
-  pub derived : (r : InForce) → Memᴰ r b.rules → Derived (net-under l).ground r.typed r.worked
+  pub derived : (r : InForce) → Memᴰ r b.rules → Derived (net-under l).ground-places r.typed r.worked
   pub worked : (r : InForce) → Memᴰ r b.rules → work (net-under l) r.typed ≡ Ok r.worked
   -- a control place without a rule in the book is blank
-  pub blank-or-ruled : (c : ℕ) → (net-under l).ground ≤ c → BlankPlace (net-under l) (free-under l) c ⊎ Ruled b.rules c
+  pub blank-or-ruled : (c : ℕ) → (net-under l).ground-places ≤ c → BlankPlace (net-under l) (free-under l) c ⊎ Ruled b.rules c
 
 -- after every list the pile keeps the ranges, its limits and the arcs of its rules
 abbrev pub AllStanding : Type 0
@@ -325,7 +325,7 @@ fired (c ∷ cs) (x ∷ xs) u = cond x (fires-once c u) 0 + fired cs xs u
 
 -- the state equation: after every list the marking of a ground place is the first marking and D times the moves fired
 abbrev pub StateEquation : Type 0
-StateEquation = (p : Pile) (rs : List InForce) → Built p rs → (cs : List Call) (i : ℕ) → i < (pile-net p).ground →
+StateEquation = (p : Pile) (rs : List InForce) → Built p rs → (cs : List Call) (i : ℕ) → i < (pile-net p).ground-places →
     let l : Ledger = run (new-ledger p) cs in
     let times : ℕ → ℕ = fired cs (acceptances (answers (new-ledger p) cs)) in
     pos (marking (net-under l) (free-under l) l.opened i) ≡ pos (pile-free p i) +ℤ signed-sum (pile-net p).moves (λ u. pos (times u) *ℤ incidence (pile-net p) i u)

@@ -66,7 +66,7 @@ masked-give n r t = cond (nat_lt t n.moves) (r.give t) 0
 
 abbrev pub layer-net : ℕ → Net → (ℕ → Row) → Net
 layer-net size n rows = cond (is-shut size n) n (record {
-  ground = n.ground;
+  ground-places = n.ground-places;
   places = n.places + size;
   moves = n.moves;
   controllable = n.controllable;
@@ -220,7 +220,7 @@ in-force p r typed worked = record { place = row-place p r; typed = typed; worke
 
 pub data Built : Pile → List InForce → Type 0 where
   -- a plant that keeps the ranges, has no control places and holds no more than its limits
-  bare : (n : Net) (free : ℕ → ℕ) → Ranges n → n.places ≡ n.ground → ((i : ℕ) → free i ≤ n.limit i) →
+  bare : (n : Net) (free : ℕ → ℕ) → Ranges n → n.places ≡ n.ground-places → ((i : ℕ) → free i ≤ n.limit i) →
       Built (plant-alone n free) []
   -- a layer put on it, its rows blank
   monitored : {p : Pile} {rs : List InForce} → Built p rs → Built (with-layer monitor p) rs

@@ -9,7 +9,7 @@ use Rattle.model.specs.Sizes.{most-places, most-all-places, most-moves, most-arc
 
 pub record Net : Type 0 where
   -- the count of ground places, of all places and of moves
-  pub ground : ℕ
+  pub ground-places : ℕ
   pub places : ℕ
   pub moves : ℕ
   -- whether a move waits to be granted, or happens of itself
@@ -34,19 +34,19 @@ abbrev pub incidence : Net → ℕ → ℕ → ℤ
 incidence n p t = pos (n.give p t) -ℤ pos (n.take p t)
 
 pub record Ranges (n : Net) : Type 0 where
-  pub ground-some : 1 ≤ n.ground
-  pub ground-few : n.ground ≤ most-places
-  pub places-all : n.ground ≤ n.places
+  pub ground-some : 1 ≤ n.ground-places
+  pub ground-few : n.ground-places ≤ most-places
+  pub places-all : n.ground-places ≤ n.places
   pub places-few : n.places ≤ most-all-places
   pub moves-some : 1 ≤ n.moves
   pub moves-few : n.moves ≤ most-moves
-  pub ground-arcs : (p t : ℕ) → p < n.ground → (n.take p t ≤ most-arc) × (n.give p t ≤ most-arc)
-  pub ground-limit : (p : ℕ) → p < n.ground → (1 ≤ n.limit p) × (n.limit p ≤ most-limit)
-  pub ground-plain : (p : ℕ) → p < n.ground → (n.layer p ≡ 0) × (n.row p ≡ 0)
-  pub control-arcs : (p t : ℕ) → n.ground ≤ p → (n.take p t ≤ most-control-arc) × (n.give p t ≤ most-control-arc)
-  pub control-limited : (p : ℕ) → n.ground ≤ p → p < n.places → n.limit p ≡ control-limit
+  pub ground-arcs : (p t : ℕ) → p < n.ground-places → (n.take p t ≤ most-arc) × (n.give p t ≤ most-arc)
+  pub ground-limit : (p : ℕ) → p < n.ground-places → (1 ≤ n.limit p) × (n.limit p ≤ most-limit)
+  pub ground-plain : (p : ℕ) → p < n.ground-places → (n.layer p ≡ 0) × (n.row p ≡ 0)
+  pub control-arcs : (p t : ℕ) → n.ground-places ≤ p → (n.take p t ≤ most-control-arc) × (n.give p t ≤ most-control-arc)
+  pub control-limited : (p : ℕ) → n.ground-places ≤ p → p < n.places → n.limit p ≡ control-limit
   -- no control place holds an uncontrollable move back
-  pub control-free : (p t : ℕ) → n.ground ≤ p → n.controllable t ≡ false → n.take p t ≡ 0
+  pub control-free : (p t : ℕ) → n.ground-places ≤ p → n.controllable t ≡ false → n.take p t ≡ 0
   pub no_place : (p t : ℕ) → n.places ≤ p →
       (n.take p t ≡ 0) × (n.give p t ≡ 0) × (n.limit p ≡ 0) × (n.layer p ≡ 0) × (n.row p ≡ 0)
   pub no_move : (p t : ℕ) → n.moves ≤ t → (n.take p t ≡ 0) × (n.give p t ≡ 0) × (n.controllable t ≡ false)

@@ -25,7 +25,7 @@ abbrev pub RefusedAt : Answer → ℕ → Type 0
 RefusedAt a c = named-place a ≡ Some c
 
 abbrev pub Lets : Net → Book → ℕ → Type 0
-Lets n b t = (p : ℕ) → p < n.ground → (pos (n.take p t) +ℤ pos (taken n b.v p)) ≤ℤ b.q p
+Lets n b t = (p : ℕ) → p < n.ground-places → (pos (n.take p t) +ℤ pos (taken n b.v p)) ≤ℤ b.q p
 
 abbrev pub weight-of : Net → Book → InForce → ℤ
 weight-of n b r = weighted n r.worked.weight b.q
@@ -53,7 +53,7 @@ abbrev pub MayAsk : Net → Book → ℕ → Type 0
 MayAsk n b t = (t < n.moves) × (n.controllable t ≡ true) × (open-count n b.v < most-open)
 
 pub record Agrees (l : Ledger) (b : Book) : Type 0 where
-  pub marked : (p : ℕ) → p < (net-under l).ground → b.q p ≡ pos (marking (net-under l) (free-under l) l.opened p)
+  pub marked : (p : ℕ) → p < (net-under l).ground-places → b.q p ≡ pos (marking (net-under l) (free-under l) l.opened p)
   pub counted : (t : ℕ) → b.v t ≡ l.opened t
 
 -- for every rule in force: its weighted marking, the tokens of its row and what open grants hold add up to its worked bound,
@@ -66,14 +66,14 @@ pub record Sums (l : Ledger) (b : Book) : Type 0 where
 -- a grant that may be asked is refused at a control place exactly when the ground places let it begin and it would break a
 -- rule in force; and then the place is that of the lowest such rule
 pub record Grants (l : Ledger) (b : Book) : Type 0 where
-  pub only : (t c : ℕ) → MayAsk (net-under l) b t → (net-under l).ground ≤ c → RefusedAt (answer l (grant t)) c →
+  pub only : (t c : ℕ) → MayAsk (net-under l) b t → (net-under l).ground-places ≤ c → RefusedAt (answer l (grant t)) c →
       Lets (net-under l) b t × LowestBroken (net-under l) b t c
   pub always : (t : ℕ) (r : InForce) → MayAsk (net-under l) b t → Lets (net-under l) b t → Memᴰ r b.rules →
-      Breaks (net-under l) b t r → (c : ℕ) × (((net-under l).ground ≤ c) × RefusedAt (answer l (grant t)) c)
+      Breaks (net-under l) b t r → (c : ℕ) × (((net-under l).ground-places ≤ c) × RefusedAt (answer l (grant t)) c)
 
 -- a report is not refused at a control place; a commit or cancel of an open grant is not refused
 pub record Passes (l : Ledger) : Type 0 where
-  pub reported : (t c : ℕ) → (net-under l).ground ≤ c → RefusedAt (answer l (report t)) c → ⊥
+  pub reported : (t c : ℕ) → (net-under l).ground-places ≤ c → RefusedAt (answer l (report t)) c → ⊥
   pub committed : (t : ℕ) → 0 < l.opened t → answer l (commit t) ≡ Ok tt
   pub cancelled : (t : ℕ) → 0 < l.opened t → answer l (cancel t) ≡ Ok tt
 

@@ -21,12 +21,12 @@ use Rattle.model.specs.Rule.{Rule, Worked, raise}
 use Rattle.model.specs.Working.{unchanged}
 
 pub record CanBeTyped (n : Net) (r : Rule) : Type 0 where
-  pub weights : (p : ℕ) → p < n.ground → unsigned_abs (r.weight p) ≤ most-weight
-  pub elsewhere : (p : ℕ) → n.ground ≤ p → p < most-all-places → r.weight p ≡ pos 0
+  pub weights : (p : ℕ) → p < n.ground-places → unsigned_abs (r.weight p) ≤ most-weight
+  pub elsewhere : (p : ℕ) → n.ground-places ≤ p → p < most-all-places → r.weight p ≡ pos 0
   pub bound-in : unsigned_abs r.bound ≤ most-bound
 
 pub record Small (n : Net) (w : Worked) : Type 0 where
-  pub weights : (p : ℕ) → p < n.ground → unsigned_abs (w.weight p) ≤ most-worked-weight
+  pub weights : (p : ℕ) → p < n.ground-places → unsigned_abs (w.weight p) ≤ most-worked-weight
   pub bound-in : unsigned_abs w.bound ≤ most-worked-bound
 
 pub record Gcd (a e h : ℕ) : Type 0 where
@@ -51,7 +51,7 @@ pub record Round (n : Net) (r s : Worked) : Type 0 where
   pub h : ℕ
   pub rising : LowestRising n r move a
   -- the lowest ground place of which it takes more than it gives, by e
-  pub place_in : place < n.ground
+  pub place_in : place < n.ground-places
   pub takes : n.give place move + e ≡ n.take place move
   pub e-some : 1 ≤ e
   pub place-lowest : (i : ℕ) → i < place → n.take i move ≤ n.give i move
@@ -96,7 +96,7 @@ pub record StuckOf (n : Net) (most : ℕ) (r : Worked) : Type 0 where
   pub move : ℕ
   pub raised : ℕ
   pub rising : LowestRising n last move raised
-  pub no_place : (p : ℕ) → p < n.ground → n.take p move ≤ n.give p move
+  pub no_place : (p : ℕ) → p < n.ground-places → n.take p move ≤ n.give p move
 
 -- the next round's rule is too large
 pub record LargeOf (n : Net) (most : ℕ) (r : Worked) : Type 0 where

@@ -20,13 +20,13 @@ pub record Worked : Type 0 where
   pub rounds : ℕ
 
 abbrev pub weighted : Net → (ℕ → ℤ) → (ℕ → ℤ) → ℤ
-weighted n l m = signed-sum n.ground (λ p. l p *ℤ m p)
+weighted n l m = signed-sum n.ground-places (λ p. l p *ℤ m p)
 
 abbrev pub weighted-free : Net → (ℕ → ℤ) → (ℕ → ℕ) → ℤ
 weighted-free n l free = weighted n l (λ p. pos (free p))
 
 abbrev pub raise : Net → (ℕ → ℤ) → ℕ → ℤ
-raise n l t = signed-sum n.ground (λ p. l p *ℤ incidence n p t)
+raise n l t = signed-sum n.ground-places (λ p. l p *ℤ incidence n p t)
 
 abbrev pub positive : ℤ → ℕ
 positive (pos k) = k
@@ -41,4 +41,4 @@ all-below f zero = true
 all-below f (suc k) = all-below f k && f k
 
 abbrev pub in-range : ℕ → ℕ → Net → (ℕ → ℤ) → ℤ → Bool
-in-range most-w most-b n l b = all-below (λ p. leb (unsigned_abs (l p)) most-w) n.ground && nat_le (unsigned_abs b) most-b
+in-range most-w most-b n l b = all-below (λ p. leb (unsigned_abs (l p)) most-w) n.ground-places && nat_le (unsigned_abs b) most-b

@@ -21,7 +21,7 @@ use Rattle.model.specs.Rule.{Rule, Worked, raise, positive, in-range, all-below}
 
 -- no net has a place from most-all-places on
 abbrev pub ground-only : Net → Rule → Bool
-ground-only n r = all-below (λ p. nat_lt p n.ground || unsigned_abs (r.weight p) == 0) most-all-places
+ground-only n r = all-below (λ p. nat_lt p n.ground-places || unsigned_abs (r.weight p) == 0) most-all-places
 
 abbrev pub is-typed : Net → Rule → Bool
 is-typed n r = in-range most-weight most-bound n r.weight r.bound && ground-only n r
@@ -59,7 +59,7 @@ module _ (on : Worked → Result Worked Fault) (n : Net) (w : Worked) where
   at_place t None = Err (setting-fault NotAbsorbed)
 
   abbrev pub at-move : Option ℕ → Result Worked Fault
-  at-move (Some t) = at_place t (lowest (falls n t) 0 n.ground)
+  at-move (Some t) = at_place t (lowest (falls n t) 0 n.ground-places)
   at-move None = Ok w
 
 abbrev pub at-end : Worked → Option ℕ → Result Worked Fault

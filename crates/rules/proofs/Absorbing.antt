@@ -21,11 +21,11 @@ positive-is (pos n) e = refl
 positive-is (negsuc n) e = absurd (omega (arith, ints))
 
 -- ---- the numbers of a round
-pub place_in : {n : Net} {w : Worked} {t p : ℕ} → RoundAt n w t p → p < n.ground
-place_in {n} {w} {t} {p} due = (lowest-some (falls n t) n.ground p due.place_is).1
+pub place_in : {n : Net} {w : Worked} {t p : ℕ} → RoundAt n w t p → p < n.ground-places
+place_in {n} {w} {t} {p} due = (lowest-some (falls n t) n.ground-places p due.place_is).1
 
 pub fall-some : {n : Net} {w : Worked} {t p : ℕ} → RoundAt n w t p → n.give p t < n.take p t
-fall-some {n} {w} {t} {p} due = ltb-true (n.give p t) (n.take p t) (lowest-some (falls n t) n.ground p due.place_is).0
+fall-some {n} {w} {t} {p} due = ltb-true (n.give p t) (n.take p t) (lowest-some (falls n t) n.ground-places p due.place_is).0
 
 -- as the code has them: a is the raise, e the fall and h their greatest common divisor
 pub record Reckoned (n : Net) (w : Worked) (t p a e h : ℕ) : Type 0 where
@@ -39,7 +39,7 @@ module _ {n : Net} (s : Ranges n) {w : Worked} (weights : (p : ℕ) → nat_abs 
       (and_parts (not (n.controllable t)) (lt_z (pos 0) (raise n w.weight t)) (lowest-some (rising n w) n.moves t due.move-is).0).1
 
   raise-few : nat_abs (raise n w.weight t) ≤ most-places * most-term
-  raise-few = sum-small w.weight (λ q. incidence n q t) weights n.ground s.ground-few (λ q l. omega (arith, incidence-small n s q t l)) n.ground (omega arith)
+  raise-few = sum-small w.weight (λ q. incidence n q t) weights n.ground-places s.ground-few (λ q l. omega (arith, incidence-small n s q t l)) n.ground-places (omega arith)
 
   -- the raise as the code reads and casts it
   module _ (r : ℤ) (r-is : r ≡ raise n w.weight t) where

@@ -15,7 +15,7 @@ use Rattle.rules.specs.Rounding.{absorption-of, after-round, RoundAt}
 use Rattle.rules.proofs.Absorbing.{place_in}
 
 -- no place beyond the ground places comes to weigh
-pub changed-on-ground : {n : Net} {w : Worked} {t p : ℕ} → RoundAt n w t p → (q : ℕ) → n.ground ≤ q → (changed n w t p).weight q ≡ pos 0
+pub changed-on-ground : {n : Net} {w : Worked} {t p : ℕ} → RoundAt n w t p → (q : ℕ) → n.ground-places ≤ q → (changed n w t p).weight q ≡ pos 0
 changed-on-ground {n} {w} {t} {p} due q l =
     let x : Absorption = absorption-of n w t p in
     let other : eqb q p ≡ false = ne_eqb q p (λ e. omega (arith, place_in due)) in
@@ -57,7 +57,7 @@ module _ {n : Net} {w : Worked} {t p : ℕ} (due : RoundAt n w t p) {ws : List �
   is-changed k e small = (λ i. Ok (record { weight = λ q. weight_is q i; bound = bound-is i; rounds = (e ∙ add-one w.rounds) i })) ∙ sym (cond-true _ _ _ (fits-is ∙ small))
 
   pub weights-small : fit ≡ true → (q : ℕ) → nat_abs (get_or ws q (pos 0)) ≤ most-worked-weight
-  weights-small small q = elim (cases_lt q n.ground) [
+  weights-small small q = elim (cases_lt q n.ground-places) [
     | inl l ↦ range-weights most-worked-weight most-worked-bound n (λ i. get_or ws i (pos 0)) b (sym o.fit_is ∙ small) q l
     | inr l ↦ rw (weight_is q ∙ changed-on-ground due q l) (omega arith)
   ]

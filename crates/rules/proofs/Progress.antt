@@ -35,11 +35,11 @@ search-none : (n : Net) (m : Option ℕ) → None ≡ rising-at n m → m ≡ No
 search-none n None e = refl
 search-none n (Some t) e = let z : ◌≡◌ {A = ℕ} 0 1 = cc in absurd (omega arith)
 
-search-some : (n : Net) (m : Option ℕ) (r : Rising) → Some r ≡ rising-at n m → (m ≡ Some r.transition) × (lowest (falls n r.transition) 0 n.ground ≡ r.absorber)
+search-some : (n : Net) (m : Option ℕ) (r : Rising) → Some r ≡ rising-at n m → (m ≡ Some r.transition) × (lowest (falls n r.transition) 0 n.ground-places ≡ r.absorber)
 search-some n None r e = let z : ◌≡◌ {A = ℕ} 0 1 = cc in absurd (omega arith)
 search-some n (Some t) r e =
-    let k : r ≡ record { transition = t; absorber = lowest (falls n t) 0 n.ground } = cc in
-    (ap Some (sym (ap (λ x. x.transition) k)), ap (λ x. lowest (falls n x.transition) 0 n.ground) k ∙ sym (ap (λ x. x.absorber) k))
+    let k : r ≡ record { transition = t; absorber = lowest (falls n t) 0 n.ground-places } = cc in
+    (ap Some (sym (ap (λ x. x.transition) k)), ap (λ x. lowest (falls n x.transition) 0 n.ground-places) k ∙ sym (ap (λ x. x.absorber) k))
 
 -- ---- the turns
 -- after i rounds the rule is w

@@ -12,26 +12,26 @@ most-term = most-worked-weight * most-limit
 pub product-fits : (a b : ℤ) (m k : ℕ) → m * k < 2 ^ 31 → nat_abs a ≤ m → nat_abs b ≤ k → nat_abs a * nat_abs b < 2 ^ 31
 product-fits a b m k room h l = omega (arith, mul-le-mul h l)
 
-pub incidence-small : (n : Net) → Ranges n → (p t : ℕ) → p < n.ground → nat_abs (incidence n p t) ≤ most-arc
+pub incidence-small : (n : Net) → Ranges n → (p t : ℕ) → p < n.ground-places → nat_abs (incidence n p t) ≤ most-arc
 incidence-small n s p t l = small (n.give p t) (n.take p t) (s.ground-arcs p t l).1 (s.ground-arcs p t l).0
   where
     small : (a b : ℕ) → a ≤ most-arc → b ≤ most-arc → nat_abs (pos a -ℤ pos b) ≤ most-arc
     small a b h k = omega (arith, ints)
 
-pub tokens-few : (n : Net) → Ranges n → (free : ℕ → ℕ) → ((p : ℕ) → free p ≤ n.limit p) → (p : ℕ) → p < n.ground → free p ≤ most-limit
+pub tokens-few : (n : Net) → Ranges n → (free : ℕ → ℕ) → ((p : ℕ) → free p ≤ n.limit p) → (p : ℕ) → p < n.ground-places → free p ≤ most-limit
 tokens-few n s free within p l = omega (arith, within p, (s.ground-limit p l).1)
 
 -- a weighted sum over the ground places, of what each changes by or holds
-module _ (w x : ℕ → ℤ) (weights : (p : ℕ) → nat_abs (w p) ≤ most-worked-weight) (ground : ℕ) (few : ground ≤ most-places)
-    (each : (p : ℕ) → p < ground → nat_abs (x p) ≤ most-limit) where
-  term-small : (p : ℕ) → p < ground → nat_abs (w p *ℤ x p) ≤ most-term
+module _ (w x : ℕ → ℤ) (weights : (p : ℕ) → nat_abs (w p) ≤ most-worked-weight) (ground-places : ℕ) (few : ground-places ≤ most-places)
+    (each : (p : ℕ) → p < ground-places → nat_abs (x p) ≤ most-limit) where
+  term-small : (p : ℕ) → p < ground-places → nat_abs (w p *ℤ x p) ≤ most-term
   term-small p l = abs-mul-le (w p) (x p) most-worked-weight most-limit (weights p) (each p l)
 
-  pub sum-small : (p : ℕ) → p ≤ ground → nat_abs (signed-sum p (λ q. w q *ℤ x q)) ≤ most-places * most-term
+  pub sum-small : (p : ℕ) → p ≤ ground-places → nat_abs (signed-sum p (λ q. w q *ℤ x q)) ≤ most-places * most-term
   sum-small p l = omega (arith, signed-sum-abs p most-term (λ q. w q *ℤ x q) (λ q h. term-small q (omega arith)))
 
   -- one more term
-  module _ (p : ℕ) (inside : p < ground) (sum term : ℤ) (so_far : sum ≡ signed-sum p (λ q. w q *ℤ x q)) (next : term ≡ w p *ℤ x p) where
+  module _ (p : ℕ) (inside : p < ground-places) (sum term : ℤ) (so_far : sum ≡ signed-sum p (λ q. w q *ℤ x q)) (next : term ≡ w p *ℤ x p) where
     sum-size : nat_abs sum ≤ most-places * most-term
     sum-size = rw so_far (sum-small p (omega arith))
 

@@ -22,29 +22,29 @@ one-fails f k i l e =
     elim (cases_Bool (all-below f k)) [ inl t ↦ absurd (both_ways (f i) e (all-below-says f k t i l)) | inr t ↦ t ]
 
 -- weights of places from the ground on, as a loop finds that they are 0
-pub one-more-none : (ws : List ℤ) (ground p : ℕ) → ((q : ℕ) → ground ≤ q → q < p → get_or ws q (pos 0) ≡ pos 0) → get_or ws p (pos 0) ≡ pos 0
-    → (q : ℕ) → ground ≤ q → q < p + 1 → get_or ws q (pos 0) ≡ pos 0
-one-more-none ws ground p below here q h l = below_more (λ i. ground ≤ i → get_or ws i (pos 0) ≡ pos 0) p (λ i k m. below i m k) (λ m. here) q l h
+pub one-more-none : (ws : List ℤ) (ground-places p : ℕ) → ((q : ℕ) → ground-places ≤ q → q < p → get_or ws q (pos 0) ≡ pos 0) → get_or ws p (pos 0) ≡ pos 0
+    → (q : ℕ) → ground-places ≤ q → q < p + 1 → get_or ws q (pos 0) ≡ pos 0
+one-more-none ws ground-places p below here q h l = below_more (λ i. ground-places ≤ i → get_or ws i (pos 0) ≡ pos 0) p (λ i k m. below i m k) (λ m. here) q l h
 
-pub none-beyond : (ws : List ℤ) (ground p : ℕ) → ((q : ℕ) → ground ≤ q → q < p → get_or ws q (pos 0) ≡ pos 0) → length ws ≤ p
-    → (q : ℕ) → ground ≤ q → get_or ws q (pos 0) ≡ pos 0
-none-beyond ws ground p below l q h = elim (cases_lt q p) [ inl k ↦ below q h k | inr k ↦ get_or_past ws q (pos 0) (omega arith) ]
+pub none-beyond : (ws : List ℤ) (ground-places p : ℕ) → ((q : ℕ) → ground-places ≤ q → q < p → get_or ws q (pos 0) ≡ pos 0) → length ws ≤ p
+    → (q : ℕ) → ground-places ≤ q → get_or ws q (pos 0) ≡ pos 0
+none-beyond ws ground-places p below l q h = elim (cases_lt q p) [ inl k ↦ below q h k | inr k ↦ get_or_past ws q (pos 0) (omega arith) ]
 
 none : (z : ℤ) → nat_abs z ≡ 0 → z ≡ pos 0
 none z e = omega (arith, ints)
 
 -- the place p weighs, beyond the ground places
-pub weighs-beyond : (n : Net) (r : Rule) (p : ℕ) → n.ground ≤ p → p < most-places → (r.weight p ≡ pos 0 → ⊥) → ground-only n r ≡ false
-weighs-beyond n r p h l ne = one-fails (λ i. ltb i n.ground || eqb (nat_abs (r.weight i)) 0) most-all-places p (omega arith)
-    (or_from (ltb p n.ground) (eqb (nat_abs (r.weight p)) 0) (le-ltb p n.ground h) (ne_eqb (nat_abs (r.weight p)) 0 (λ e. ne (none (r.weight p) e))))
+pub weighs-beyond : (n : Net) (r : Rule) (p : ℕ) → n.ground-places ≤ p → p < most-places → (r.weight p ≡ pos 0 → ⊥) → ground-only n r ≡ false
+weighs-beyond n r p h l ne = one-fails (λ i. ltb i n.ground-places || eqb (nat_abs (r.weight i)) 0) most-all-places p (omega arith)
+    (or_from (ltb p n.ground-places) (eqb (nat_abs (r.weight p)) 0) (le-ltb p n.ground-places h) (ne_eqb (nat_abs (r.weight p)) 0 (λ e. ne (none (r.weight p) e))))
 
-pub weighs-ground : (n : Net) (r : Rule) → ((p : ℕ) → n.ground ≤ p → r.weight p ≡ pos 0) → ground-only n r ≡ true
-weighs-ground n r h = all_pass (λ i. ltb i n.ground || eqb (nat_abs (r.weight i)) 0) most-all-places (λ i l. at i)
+pub weighs-ground : (n : Net) (r : Rule) → ((p : ℕ) → n.ground-places ≤ p → r.weight p ≡ pos 0) → ground-only n r ≡ true
+weighs-ground n r h = all_pass (λ i. ltb i n.ground-places || eqb (nat_abs (r.weight i)) 0) most-all-places (λ i l. at i)
   where
-    at : (i : ℕ) → ltb i n.ground || eqb (nat_abs (r.weight i)) 0 ≡ true
-    at i = elim (cases_Bool (ltb i n.ground)) [
-      | inl t ↦ or_left (ltb i n.ground) (eqb (nat_abs (r.weight i)) 0) t
-      | inr t ↦ or_right (ltb i n.ground) (eqb (nat_abs (r.weight i)) 0) (eq-eqb (nat_abs (r.weight i)) 0 (ap nat_abs (h i (ltb-false i n.ground t))))
+    at : (i : ℕ) → ltb i n.ground-places || eqb (nat_abs (r.weight i)) 0 ≡ true
+    at i = elim (cases_Bool (ltb i n.ground-places)) [
+      | inl t ↦ or_left (ltb i n.ground-places) (eqb (nat_abs (r.weight i)) 0) t
+      | inr t ↦ or_right (ltb i n.ground-places) (eqb (nat_abs (r.weight i)) 0) (eq-eqb (nat_abs (r.weight i)) 0 (ap nat_abs (h i (ltb-false i n.ground-places t))))
     ]
 
 -- whether a rule can be typed, as the code asks it: x whether its numbers are small, z being its bound, and then y
@@ -66,19 +66,19 @@ module _ (n : Net) (ws : List ℤ) (b : ℤ) (size : length ws ≡ most-places) 
   small : in-range most-weight most-bound n rule.weight b ≡ true
   small = (and_parts (in-range most-weight most-bound n rule.weight b) (ground-only n rule) typed).0
 
-  pub typed-on-ground : (q : ℕ) → n.ground ≤ q → get_or ws q (pos 0) ≡ pos 0
+  pub typed-on-ground : (q : ℕ) → n.ground-places ≤ q → get_or ws q (pos 0) ≡ pos 0
   typed-on-ground q h = elim (cases_lt q most-places) [
-    | inl l ↦ off (or_cases (ltb q n.ground) (eqb (nat_abs (get_or ws q (pos 0))) 0) (all-below-says (λ i. ltb i n.ground || eqb (nat_abs (get_or ws i (pos 0))) 0) most-all-places
+    | inl l ↦ off (or_cases (ltb q n.ground-places) (eqb (nat_abs (get_or ws q (pos 0))) 0) (all-below-says (λ i. ltb i n.ground-places || eqb (nat_abs (get_or ws i (pos 0))) 0) most-all-places
         (and_parts (in-range most-weight most-bound n rule.weight b) (ground-only n rule) typed).1 q (omega arith)))
     | inr l ↦ get_or_past ws q (pos 0) (omega arith)
   ]
     where
-      off : (ltb q n.ground ≡ true) ⊎ (eqb (nat_abs (get_or ws q (pos 0))) 0 ≡ true) → get_or ws q (pos 0) ≡ pos 0
-      off (inl t) = absurd (omega (arith, ltb-true q n.ground t))
+      off : (ltb q n.ground-places ≡ true) ⊎ (eqb (nat_abs (get_or ws q (pos 0))) 0 ≡ true) → get_or ws q (pos 0) ≡ pos 0
+      off (inl t) = absurd (omega (arith, ltb-true q n.ground-places t))
       off (inr t) = none (get_or ws q (pos 0)) (eqb-true (nat_abs (get_or ws q (pos 0))) 0 t)
 
   pub typed-weights-small : (q : ℕ) → nat_abs (get_or ws q (pos 0)) ≤ most-worked-weight
-  typed-weights-small q = elim (cases_lt q n.ground) [
+  typed-weights-small q = elim (cases_lt q n.ground-places) [
     | inl l ↦ omega (arith, range-weights most-weight most-bound n rule.weight b small q l)
     | inr l ↦ rw (typed-on-ground q l) (omega arith)
   ]

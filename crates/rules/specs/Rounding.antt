@@ -33,11 +33,11 @@ pub record Modest (x : Absorption) : Type 0 where
   pub addend_small : unsigned_abs x.addend ≤ most-places * (most-worked-weight * most-limit)
 
 abbrev pub OnGround : Net → Result Worked Fault → Type 0
-OnGround n (Ok w) = (q : ℕ) → n.ground ≤ q → w.weight q ≡ pos 0
+OnGround n (Ok w) = (q : ℕ) → n.ground-places ≤ q → w.weight q ≡ pos 0
 OnGround n (Err f) = Unit {0}
 
 pub record RoundAt (n : Net) (w : Worked) (t p : ℕ) : Type 0 where
   pub move-is : lowest (rising n w) 0 n.moves ≡ Some t
-  pub place_is : lowest (falls n t) 0 n.ground ≡ Some p
+  pub place_is : lowest (falls n t) 0 n.ground-places ≡ Some p
   pub on-ground : OnGround n (Ok w)
   pub rounds-left : w.rounds < most-rounds

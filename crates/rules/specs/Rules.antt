@@ -26,7 +26,7 @@ answer-of (Ok w) = Ok (worked-of w)
 answer-of (Err f) = Err f
 
 pub record Better (n : Net) (typed : Rule) (w : Worked) : Type 0 where
-  pub derived : Derived n.ground typed w
+  pub derived : Derived n.ground-places typed w
   pub quiet : Quiet n w
   pub implies : (m : ℕ → ℕ) → weighted-free n w.weight m ≤ℤ w.bound → weighted-free n typed.weight m ≤ℤ typed.bound
 

@@ -9,7 +9,7 @@ use Rattle.model.specs.Working.{rising, falls}
 use Rattle.rules.specs.declared.search.Rising.{Rising}
 
 abbrev pub rising-at : Net → Option ℕ → Option Rising
-rising-at n (Some t) = Some (record { transition = t; absorber = lowest (falls n t) 0 n.ground })
+rising-at n (Some t) = Some (record { transition = t; absorber = lowest (falls n t) 0 n.ground-places })
 rising-at n None = None
 
 abbrev pub round-search : Net → Worked → Option Rising

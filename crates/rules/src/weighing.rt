@@ -13,7 +13,7 @@ use plant::plant::Plant;
 
 // What the move `t` gives to the ground place `p`, less what it takes.
 fn incidence<N: Net>(net: &N, p: usize, t: usize) -> i32
-    requires { p < (N.Net.net net.now).ground }
+    requires { p < (N.Net.net net.now).ground-places }
     ensures value { result ≡ incidence-of (N.Net.net net.now) p t }
     ensures small { unsigned_abs result ≤ most-arc }
 {

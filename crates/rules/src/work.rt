@@ -15,7 +15,7 @@ impl TypedRule {
     // The rule before its first round, or 25 where it cannot be typed.
     fn before_rounds<N: Net>(&self, net: &N) -> Result<WorkedRule, Fault>
         ensures answer { answer-of result ≡ before-rounds (N.Net.net net.now) (rule-of self.now) }
-        ensures ground { OnGround (N.Net.net net.now) (answer-of result) }
+        ensures by_ground { OnGround (N.Net.net net.now) (answer-of result) }
     {
         if !self.can_be_typed(net) {
             return Err(fault(Refusal::NotTyped));

@@ -123,5 +123,5 @@ pub same-net : (n k m l : ℕ) → n ≡ m → k ≡ l → (c d : ℕ → Bool) 
     → ((t : ℕ) → (ltb t k && c t) ≡ (ltb t k && d t)) → ((p t : ℕ) → cond (ltb p n && ltb t k) (f p t) 0 ≡ cond (ltb p n && ltb t k) (g p t) 0) → ((p t : ℕ) → cond (ltb p n && ltb t k) (x p t) 0 ≡ cond (ltb p n && ltb t k) (y p t) 0)
     → ((p : ℕ) → cond (ltb p n) (u p) 0 ≡ cond (ltb p n) (v p) 0) → table-net n k c f x u ≡ table-net m l d g y v
 same-net n k m l e q c d f g x y u v h1 h2 h3 h4 =
-    (λ i. record { ground = n; places = n; moves = k; controllable = λ t. h1 t i; take = λ p t. h2 p t i; give = λ p t. h3 p t i; limit = λ p. h4 p i; layer = λ p. 0; row = λ p. 0 })
+    (λ i. record { ground-places = n; places = n; moves = k; controllable = λ t. h1 t i; take = λ p t. h2 p t i; give = λ p t. h3 p t i; limit = λ p. h4 p i; layer = λ p. 0; row = λ p. 0 })
     ∙ (λ i. table-net (e i) (q i) d g y v)

@@ -11,7 +11,7 @@ use Rattle.table.specs.declared.table.Table.{Table}
 
 abbrev pub table-net : ℕ → ℕ → (ℕ → Bool) → (ℕ → ℕ → ℕ) → (ℕ → ℕ → ℕ) → (ℕ → ℕ) → Net
 table-net n k letters takes gives limits = record {
-  ground = n;
+  ground-places = n;
   places = n;
   moves = k;
   controllable = λ t. nat_lt t k && letters t;

@@ -15,13 +15,13 @@ returns-then-unsigned-abs-largest-weight g c =
     let n = g.N.Net.net c.args.net.now in
     let w = c.args.weights.now in
     let over : leb (nat_abs (get_or w c.places.p (pos 0))) c.args.largest-weight ≡ false = lt-leb (nat_abs (get_or w c.places.p (pos 0))) c.args.largest-weight (omega (arith, ints)) in
-    sym (and_left (all-below (λ q. leb (nat_abs (get_or w q (pos 0))) c.args.largest-weight) n.ground) (leb (nat_abs c.args.bound) c.args.largest-bound)
-    (one-fails (λ q. leb (nat_abs (get_or w q (pos 0))) c.args.largest-weight) n.ground c.places.p (omega (arith, c.ground-p-end.ensures)) over))
+    sym (and_left (all-below (λ q. leb (nat_abs (get_or w q (pos 0))) c.args.largest-weight) n.ground-places) (leb (nat_abs c.args.bound) c.args.largest-bound)
+    (one-fails (λ q. leb (nat_abs (get_or w q (pos 0))) c.args.largest-weight) n.ground-places c.places.p (omega (arith, c.ground-p-end.ensures)) over))
 
 pub returns : goal.returns
 returns g c =
     let n = g.N.Net.net c.args.net.now in
     let same : nat_abs c.args.bound ≡ c.unsigned-abs-2.result = omega (arith, ints) in
     sym (ap₂ (λ a b. a && b)
-    (all_pass (λ q. leb (nat_abs (get_or c.args.weights.now q (pos 0))) c.args.largest-weight) n.ground (λ q l. c.places.invariant q (omega (arith, c.ground-p-end.ensures))))
+    (all_pass (λ q. leb (nat_abs (get_or c.args.weights.now q (pos 0))) c.args.largest-weight) n.ground-places (λ q l. c.places.invariant q (omega (arith, c.ground-p-end.ensures))))
     (ap (λ a. leb a c.args.largest-bound) same))

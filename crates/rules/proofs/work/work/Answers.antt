@@ -16,7 +16,7 @@ pub rounds-init : goal.rounds-init
 rounds-init g c =
     let n = g.N.Net.net c.args.net.now in
     let typed = rule-of c.args.typed.now in
-    progress-first n typed (worked-of c.in-ok-rule.rule) c.in-ok-rule.ensures.answer c.in-ok-rule.ensures.ground
+    progress-first n typed (worked-of c.in-ok-rule.rule) c.in-ok-rule.ensures.answer c.in-ok-rule.ensures.by_ground
 
 pub returns-in-default : goal.returns-in-default
 returns-in-default g c =

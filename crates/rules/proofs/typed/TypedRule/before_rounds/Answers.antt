@@ -6,7 +6,7 @@ use Rattle.rules.proofs.typed.TypedRule.before_rounds.Goals as goal
 
 pub returns-then-not-can-be-typed : goal.returns-then-not-can-be-typed
 returns-then-not-can-be-typed g c =
-    record { answer = typed-refused (g.N.Net.net c.args.net.now) (rule-of c.args.self.now) c.fault.result c.fault.ensures (sym c.can-be-typed.ensures ∙ c.if-not-can-be-typed.true); ground = tt }
+    record { answer = typed-refused (g.N.Net.net c.args.net.now) (rule-of c.args.self.now) c.fault.result c.fault.ensures (sym c.can-be-typed.ensures ∙ c.if-not-can-be-typed.true); ground-places = tt }
 
 pub invariant-of-result : goal.invariant-of-result
 invariant-of-result g c =
@@ -27,5 +27,5 @@ returns g c =
     let typed = sym c.can-be-typed.ensures ∙ c.if-not-can-be-typed.false in
     record {
       answer = typed-is n s.weights b size typed (to_z w32 (of_z w32 b)) (to_z-of_z w32 b fits);
-      ground = typed-on-ground n s.weights b size typed;
+      ground-places = typed-on-ground n s.weights b size typed;
     }

@@ -5,7 +5,7 @@ use Rattle.rules.proofs.Testing.{weighs-beyond, weighs-ground, none-beyond, one-
 use Rattle.rules.proofs.typed.TypedRule.is_on_ground.Goals as goal
 
 pub places-preserved : goal.places-preserved
-places-preserved g c = one-more-none c.args.self.now.weights (g.N.Net.net c.args.net.now).ground c.places.p c.places.invariant (omega (arith, ints))
+places-preserved g c = one-more-none c.args.self.now.weights (g.N.Net.net c.args.net.now).ground-places c.places.p c.places.invariant (omega (arith, ints))
 
 pub returns-then-self-p-ne0 : goal.returns-then-self-p-ne0
 returns-then-self-p-ne0 g c = sym (weighs-beyond (g.N.Net.net c.args.net.now) (rule-of c.args.self.now) c.places.p (omega (arith, c.ground-p.ensures)) (omega arith) (λ e. omega (arith, ints)))
@@ -14,4 +14,4 @@ pub returns : goal.returns
 returns g c =
     let n = g.N.Net.net c.args.net.now in
     let size : length c.args.self.now.weights ≡ 32 = search rules in
-    sym (weighs-ground n (rule-of c.args.self.now) (none-beyond c.args.self.now.weights n.ground c.places.p c.places.invariant (omega arith)))
+    sym (weighs-ground n (rule-of c.args.self.now) (none-beyond c.args.self.now.weights n.ground-places c.places.p c.places.invariant (omega arith)))

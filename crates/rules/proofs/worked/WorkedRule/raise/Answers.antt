@@ -12,7 +12,7 @@ product-sum-requires g c =
     (omega (arith, ints, c.args.self.now.small_weights c.places.p)) (omega (arith, ints))
 
 module _ (g : given.Over) (c : goal.After-product-sum g) where
-  inside : c.places.p < (g.N.Net.net c.args.net.now).ground
+  inside : c.places.p < (g.N.Net.net c.args.net.now).ground-places
   inside = omega (arith, c.ground-p-end.ensures)
 
   term : c.product-sum.result ≡ get_or c.args.self.now.weights c.places.p (pos 0) *ℤ incidence (g.N.Net.net c.args.net.now) c.places.p c.args.t
@@ -21,23 +21,23 @@ module _ (g : given.Over) (c : goal.After-product-sum g) where
       let b : to_z w32 (of_z w32 c.incidence.result) ≡ incidence (g.N.Net.net c.args.net.now) c.places.p c.args.t = omega (arith, ints) in
       c.product-sum.ensures ∙ ap₂ (λ x y. x *ℤ y) a b
 
-  each : (p : ℕ) → p < (g.N.Net.net c.args.net.now).ground → nat_abs (incidence (g.N.Net.net c.args.net.now) p c.args.t) ≤ most-limit
+  each : (p : ℕ) → p < (g.N.Net.net c.args.net.now).ground-places → nat_abs (incidence (g.N.Net.net c.args.net.now) p c.args.t) ≤ most-limit
   each p l = omega (arith, incidence-small (g.N.Net.net c.args.net.now) (g.met.N.Net.sound c.args.net.now) p c.args.t l)
 
 pub overflow-add-sum : goal.overflow-add-sum
 overflow-add-sum g c =
     let n = g.N.Net.net c.args.net.now in
     more-fits (λ p. get_or c.args.self.now.weights p (pos 0)) (λ p. incidence n p c.args.t) c.args.self.now.small_weights
-    n.ground (g.met.N.Net.sound c.args.net.now).ground-few (each g c) c.places.p (inside g c) _ c.product-sum.result c.places.invariant (term g c)
+    n.ground-places (g.met.N.Net.sound c.args.net.now).ground-few (each g c) c.places.p (inside g c) _ c.product-sum.result c.places.invariant (term g c)
 
 pub places-preserved : goal.places-preserved
 places-preserved g c =
     let n = g.N.Net.net c.args.net.now in
     more-is (λ p. get_or c.args.self.now.weights p (pos 0)) (λ p. incidence n p c.args.t) c.args.self.now.small_weights
-    n.ground (g.met.N.Net.sound c.args.net.now).ground-few (each g c) c.places.p (inside g c) _ c.product-sum.result c.places.invariant (term g c)
+    n.ground-places (g.met.N.Net.sound c.args.net.now).ground-few (each g c) c.places.p (inside g c) _ c.product-sum.result c.places.invariant (term g c)
 
 pub returns : goal.returns
 returns g c =
     let n = g.N.Net.net c.args.net.now in
-    let all : c.places.p ≡ n.ground = omega (arith, c.ground-p-end.ensures) in
+    let all : c.places.p ≡ n.ground-places = omega (arith, c.ground-p-end.ensures) in
     c.places.invariant ∙ ap (λ k. signed-sum k (λ p. get_or c.args.self.now.weights p (pos 0) *ℤ incidence n p c.args.t)) all

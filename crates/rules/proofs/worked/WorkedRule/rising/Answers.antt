@@ -12,12 +12,12 @@ use Rattle.rules.proofs.worked.WorkedRule.rising.Goals.{else-not-controllable-vi
 pub places-init : goal.places-init
 places-init g c =
     let n = g.N.Net.net c.args.net.now in
-    sought-first (falls n c.moves.t) n.ground
+    sought-first (falls n c.moves.t) n.ground-places
 
 pub places-preserved : goal.places-preserved
 places-preserved g c =
     let n = g.N.Net.net c.args.net.now in
-    sought-on (falls n c.moves.t) n.ground c.places.p c.places.invariant (omega (arith, c.ground-p-end.ensures))
+    sought-on (falls n c.moves.t) n.ground-places c.places.p c.places.invariant (omega (arith, c.ground-p-end.ensures))
     (le-ltb _ _ (omega (arith, c.give.ensures, c.take.ensures)))
 
 pub moves-init : goal.moves-init
@@ -42,7 +42,7 @@ returns-then-give-take g c =
     found n w c.moves.t (Some c.places.p)
     (found_here (rising n w) n.moves c.moves.t c.moves.invariant (omega (arith, c.moves-t-end.ensures))
     (rises n w c.moves.t c.controllable.result c.controllable.ensures c.raise.result (record { sfits = c.raise.type-inv }) c.raise.ensures c.if-not-controllable.true c.if-raise-gt0.true))
-    (found_here (falls n c.moves.t) n.ground c.places.p c.places.invariant (omega (arith, c.ground-p-end.ensures))
+    (found_here (falls n c.moves.t) n.ground-places c.places.p c.places.invariant (omega (arith, c.ground-p-end.ensures))
     (lt-ltb _ _ (omega (arith, c.give.ensures, c.take.ensures))))
 
 pub returns-after-places : goal.returns-after-places
@@ -52,7 +52,7 @@ returns-after-places g c =
     found n w c.moves.t None
     (found_here (rising n w) n.moves c.moves.t c.moves.invariant (omega (arith, c.moves-t-end.ensures))
     (rises n w c.moves.t c.controllable.result c.controllable.ensures c.raise.result (record { sfits = c.raise.type-inv }) c.raise.ensures c.if-not-controllable.true c.if-raise-gt0.true))
-    (found_nowhere (falls n c.moves.t) n.ground c.places.p c.places.invariant (omega (arith, c.ground-p-end.ensures)))
+    (found_nowhere (falls n c.moves.t) n.ground-places c.places.p c.places.invariant (omega (arith, c.ground-p-end.ensures)))
 
 pub returns-after-moves : goal.returns-after-moves
 returns-after-moves g c =

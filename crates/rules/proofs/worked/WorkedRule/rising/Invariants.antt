@@ -7,4 +7,4 @@ abbrev pub invariant-moves : goal.invariant-moves
 invariant-moves g l = Sought (rising (g.N.Net.net l.net) (worked-of l.self)) (g.N.Net.net l.net).moves l.t
 
 abbrev pub invariant-places : goal.invariant-places
-invariant-places g l = Sought (falls (g.N.Net.net l.net) l.t) (g.N.Net.net l.net).ground l.p
+invariant-places g l = Sought (falls (g.N.Net.net l.net) l.t) (g.N.Net.net l.net).ground-places l.p

@@ -18,7 +18,7 @@ product-sum-requires g c =
     (omega (arith, ints, c.args.self.now.small_weights c.places.p)) (omega (arith, ints, few))
 
 module _ (g : given.Over) (c : goal.After-product-sum g) where
-  inside : c.places.p < (g.P.Net.net c.args.plant.now).ground
+  inside : c.places.p < (g.P.Net.net c.args.plant.now).ground-places
   inside = omega (arith, c.ground-p-end.ensures)
 
   term : c.product-sum.result ≡ get_or c.args.self.now.weights c.places.p (pos 0) *ℤ pos (g.P.Plant.tokens c.args.plant.now c.places.p)
@@ -32,23 +32,23 @@ pub overflow-add-sum : goal.overflow-add-sum
 overflow-add-sum g c =
     let s = c.args.plant.now in
     more-fits (λ p. get_or c.args.self.now.weights p (pos 0)) (λ p. pos (g.P.Plant.tokens s p)) c.args.self.now.small_weights
-    (g.P.Net.net s).ground (g.met.P.Net.sound s).ground-few (tokens-few (g.P.Net.net c.args.plant.now) (g.met.P.Net.sound c.args.plant.now) (g.P.Plant.tokens c.args.plant.now) (g.met.P.Plant.within c.args.plant.now)) c.places.p (inside g c) _ c.product-sum.result c.places.invariant (term g c)
+    (g.P.Net.net s).ground-places (g.met.P.Net.sound s).ground-few (tokens-few (g.P.Net.net c.args.plant.now) (g.met.P.Net.sound c.args.plant.now) (g.P.Plant.tokens c.args.plant.now) (g.met.P.Plant.within c.args.plant.now)) c.places.p (inside g c) _ c.product-sum.result c.places.invariant (term g c)
 
 pub places-preserved : goal.places-preserved
 places-preserved g c =
     let s = c.args.plant.now in
     more-is (λ p. get_or c.args.self.now.weights p (pos 0)) (λ p. pos (g.P.Plant.tokens s p)) c.args.self.now.small_weights
-    (g.P.Net.net s).ground (g.met.P.Net.sound s).ground-few (tokens-few (g.P.Net.net c.args.plant.now) (g.met.P.Net.sound c.args.plant.now) (g.P.Plant.tokens c.args.plant.now) (g.met.P.Plant.within c.args.plant.now)) c.places.p (inside g c) _ c.product-sum.result c.places.invariant (term g c)
+    (g.P.Net.net s).ground-places (g.met.P.Net.sound s).ground-few (tokens-few (g.P.Net.net c.args.plant.now) (g.met.P.Net.sound c.args.plant.now) (g.P.Plant.tokens c.args.plant.now) (g.met.P.Plant.within c.args.plant.now)) c.places.p (inside g c) _ c.product-sum.result c.places.invariant (term g c)
 
 pub returns : goal.returns
 returns g c =
     let s = c.args.plant.now in
     let n = g.P.Net.net s in
     let w = c.args.self.now in
-    let all : c.places.p ≡ n.ground = omega (arith, c.ground-p-end.ensures) in
+    let all : c.places.p ≡ n.ground-places = omega (arith, c.ground-p-end.ensures) in
     let e = c.places.invariant ∙ ap (λ k. signed-sum k (λ p. get_or w.weights p (pos 0) *ℤ pos (g.P.Plant.tokens s p))) all in
     record {
       value = e;
-      small = rw e (sum-small (λ p. get_or w.weights p (pos 0)) (λ p. pos (g.P.Plant.tokens s p)) w.small_weights n.ground (g.met.P.Net.sound s).ground-few
-          (tokens-few n (g.met.P.Net.sound s) (g.P.Plant.tokens s) (g.met.P.Plant.within s)) n.ground (omega arith));
+      small = rw e (sum-small (λ p. get_or w.weights p (pos 0)) (λ p. pos (g.P.Plant.tokens s p)) w.small_weights n.ground-places (g.met.P.Net.sound s).ground-few
+          (tokens-few n (g.met.P.Net.sound s) (g.P.Plant.tokens s) (g.met.P.Plant.within s)) n.ground-places (omega arith));
     }
