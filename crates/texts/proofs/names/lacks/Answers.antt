@@ -4,4 +4,4 @@ use Rattle.texts.proofs.Naming.{new-from-none}
 use Rattle.texts.proofs.names.lacks.Goals as goal
 
 pub returns : goal.returns
-returns g c = new-from-none (map (λ x. part_of c.args.text.now (g.N.Named.title x)) c.args.items.now) c.args.name.now c.is-none.result (ap is_some (sym c.find.ensures.value) ∙ c.is-none.ensures)
+returns g c = new-from-none (map (λ x. part_of c.args.text.now (g.N.Named.title x)) c.args.items.now) c.args.name.now c.is_none.result (ap is_some (sym c.find.ensures.value) ∙ c.is_none.ensures)

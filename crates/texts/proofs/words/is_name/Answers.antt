@@ -3,4 +3,4 @@ use Rattle.texts.proofs.Scanning.{name-rest}
 use Rattle.texts.proofs.words.is_name.Goals as goal
 
 pub returns : goal.returns
-returns c = name-rest c.args.field.now c.is-tail.result (sym c.if-not-is-letter.ensures) c.is-tail.ensures
+returns c = name-rest c.args.field.now c.is_tail.result (sym c.if-not-is_letter.ensures) c.is_tail.ensures
