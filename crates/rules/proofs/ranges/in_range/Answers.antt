@@ -7,21 +7,21 @@ use Rattle.rules.proofs.ranges.in_range.Goals as goal
 
 pub places-preserved : goal.places-preserved
 places-preserved g c =
-    below_more (λ q. leb (nat_abs (get_or c.args.weights.now q (pos 0))) c.args.largest-weight ≡ true) c.places.p c.places.invariant
-    (le-leb (nat_abs (get_or c.args.weights.now c.places.p (pos 0))) c.args.largest-weight (omega (arith, ints)))
+    below_more (λ q. leb (nat_abs (get_or c.args.weights.now q (pos 0))) c.args.largest_weight ≡ true) c.places.p c.places.invariant
+    (le-leb (nat_abs (get_or c.args.weights.now c.places.p (pos 0))) c.args.largest_weight (omega (arith, ints)))
 
-pub returns-then-unsigned-abs-largest-weight : goal.returns-then-unsigned-abs-largest-weight
-returns-then-unsigned-abs-largest-weight g c =
+pub returns-then-unsigned_abs-largest_weight : goal.returns-then-unsigned_abs-largest_weight
+returns-then-unsigned_abs-largest_weight g c =
     let n = g.N.Net.net c.args.net.now in
     let w = c.args.weights.now in
-    let over : leb (nat_abs (get_or w c.places.p (pos 0))) c.args.largest-weight ≡ false = lt-leb (nat_abs (get_or w c.places.p (pos 0))) c.args.largest-weight (omega (arith, ints)) in
-    sym (and_left (all-below (λ q. leb (nat_abs (get_or w q (pos 0))) c.args.largest-weight) n.ground-places) (leb (nat_abs c.args.bound) c.args.largest-bound)
-    (one-fails (λ q. leb (nat_abs (get_or w q (pos 0))) c.args.largest-weight) n.ground-places c.places.p (omega (arith, c.ground-p-end.ensures)) over))
+    let over : leb (nat_abs (get_or w c.places.p (pos 0))) c.args.largest_weight ≡ false = lt-leb (nat_abs (get_or w c.places.p (pos 0))) c.args.largest_weight (omega (arith, ints)) in
+    sym (and_left (all-below (λ q. leb (nat_abs (get_or w q (pos 0))) c.args.largest_weight) n.ground-places) (leb (nat_abs c.args.bound) c.args.largest_bound)
+    (one-fails (λ q. leb (nat_abs (get_or w q (pos 0))) c.args.largest_weight) n.ground-places c.places.p (omega (arith, c.ground-p-end.ensures)) over))
 
 pub returns : goal.returns
 returns g c =
     let n = g.N.Net.net c.args.net.now in
-    let same : nat_abs c.args.bound ≡ c.unsigned-abs-2.result = omega (arith, ints) in
+    let same : nat_abs c.args.bound ≡ c.unsigned_abs-2.result = omega (arith, ints) in
     sym (ap₂ (λ a b. a && b)
-    (all_pass (λ q. leb (nat_abs (get_or c.args.weights.now q (pos 0))) c.args.largest-weight) n.ground-places (λ q l. c.places.invariant q (omega (arith, c.ground-p-end.ensures))))
-    (ap (λ a. leb a c.args.largest-bound) same))
+    (all_pass (λ q. leb (nat_abs (get_or c.args.weights.now q (pos 0))) c.args.largest_weight) n.ground-places (λ q l. c.places.invariant q (omega (arith, c.ground-p-end.ensures))))
+    (ap (λ a. leb a c.args.largest_bound) same))

@@ -8,10 +8,10 @@ pub returns-then-small : goal.returns-then-small
 returns-then-small g c =
     let b : ℤ = c.args.self.now.bound in
     let f : SFits w32 b = search rules in
-    typed-if (g.N.Net.net c.args.net.now) (rule-of c.args.self.now) c.in-range-small.result (to_z w32 (of_z w32 b)) (to_z-of_z w32 b f) c.in-range-small.ensures c.is-on-ground.result c.if-small.true c.is-on-ground.ensures
+    typed-if (g.N.Net.net c.args.net.now) (rule-of c.args.self.now) c.in_range-small.result (to_z w32 (of_z w32 b)) (to_z-of_z w32 b f) c.in_range-small.ensures c.is_on_ground.result c.if-small.true c.is_on_ground.ensures
 
 pub returns-else-small : goal.returns-else-small
 returns-else-small g c =
     let b : ℤ = c.args.self.now.bound in
     let f : SFits w32 b = search rules in
-    typed-not (g.N.Net.net c.args.net.now) (rule-of c.args.self.now) c.in-range-small.result (to_z w32 (of_z w32 b)) (to_z-of_z w32 b f) c.in-range-small.ensures c.if-small.false
+    typed-not (g.N.Net.net c.args.net.now) (rule-of c.args.self.now) c.in_range-small.result (to_z w32 (of_z w32 b)) (to_z-of_z w32 b f) c.in_range-small.ensures c.if-small.false

@@ -16,8 +16,8 @@ factors c =
     let b : to_z w32 (of_z w32 (to_z w32 (of_z w32 c.args.self.now.bound) +ℤ pos 1)) ≡ c.args.self.now.bound +ℤ pos 1 = omega (arith, ints, c.args.self.now.small_bound) in
     c.product.ensures ∙ ap₂ (λ x y. x *ℤ y) f b
 
-pub overflow-sub-result : goal.overflow-sub-result
-overflow-sub-result c = bound-fits c.args.absorption.factor c.args.self.now.bound c.product.result c.requires.factor-small c.args.self.now.small_bound (factors c)
+pub overflow_sub-result : goal.overflow_sub-result
+overflow_sub-result c = bound-fits c.args.absorption.factor c.args.self.now.bound c.product.result c.requires.factor-small c.args.self.now.small_bound (factors c)
 
 pub returns : goal.returns
 returns c = bound-is c.args.absorption.factor c.args.self.now.bound c.product.result c.requires.factor-small c.args.self.now.small_bound (factors c)

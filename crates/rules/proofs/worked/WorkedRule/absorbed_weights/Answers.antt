@@ -6,8 +6,8 @@ use Rattle.rules.proofs.worked.WorkedRule.absorbed_weights.Goals as goal
 pub scaled-weights-requires : goal.scaled-weights-requires
 scaled-weights-requires c = omega (arith, ints)
 
-pub overflow-add-weights : goal.overflow-add-weights
-overflow-add-weights c =
+pub overflow_add-weights : goal.overflow_add-weights
+overflow_add-weights c =
     let x = c.args.absorption in
     let w = c.args.self.now in
     weight-fits x.factor (get_or w.weights x.place (pos 0)) (get_or c.scaled-weights.result x.place (pos 0)) x.addend c.requires.factor-small (w.small_weights x.place)

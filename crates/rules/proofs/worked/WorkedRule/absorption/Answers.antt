@@ -4,11 +4,11 @@ use Rattle.rules.proofs.Absorbing.{fall-some, cast_is, cast_fits, Reckoned, h-so
 use Rattle.rules.proofs.worked.WorkedRule.absorption.Given as given
 use Rattle.rules.proofs.worked.WorkedRule.absorption.Goals as goal
 
-pub overflow-cast-raise : goal.overflow-cast-raise
-overflow-cast-raise g c = cast_fits (g.met.N.Net.sound c.args.net.now) c.args.self.now.small_weights c.requires c.raise-raise.result c.raise-raise.ensures
+pub overflow_cast-raise : goal.overflow_cast-raise
+overflow_cast-raise g c = cast_fits (g.met.N.Net.sound c.args.net.now) c.args.self.now.small_weights c.requires c.raise-raise.result c.raise-raise.ensures
 
-pub overflow-sub-fall : goal.overflow-sub-fall
-overflow-sub-fall g c = omega (arith, c.take.ensures, c.give.ensures, fall-some c.requires)
+pub overflow_sub-fall : goal.overflow_sub-fall
+overflow_sub-fall g c = omega (arith, c.take.ensures, c.give.ensures, fall-some c.requires)
 
 reckoned : (g : given.Over) (c : goal.After-gcd-divisor g) →
     Reckoned (g.N.Net.net c.args.net.now) (worked-of c.args.self.now) c.args.t c.args.p (nat_abs (to_z w32 (of_z w32 c.raise-raise.result))) (c.take.result - c.give.result) c.gcd-divisor.result
@@ -18,17 +18,17 @@ reckoned g c = record {
   gcd = c.gcd-divisor.ensures;
 }
 
-pub nonzero-div-result : goal.nonzero-div-result
-nonzero-div-result g c = h-some (g.met.N.Net.sound c.args.net.now) c.args.self.now.small_weights c.requires (reckoned g c)
+pub nonzero_div-result : goal.nonzero_div-result
+nonzero_div-result g c = h-some (g.met.N.Net.sound c.args.net.now) c.args.self.now.small_weights c.requires (reckoned g c)
 
-pub overflow-cast-result : goal.overflow-cast-result
-overflow-cast-result g c = factor-fits (g.met.N.Net.sound c.args.net.now) c.args.self.now.small_weights c.requires (reckoned g c)
+pub overflow_cast-result : goal.overflow_cast-result
+overflow_cast-result g c = factor-fits (g.met.N.Net.sound c.args.net.now) c.args.self.now.small_weights c.requires (reckoned g c)
 
-pub nonzero-div-result-2 : goal.nonzero-div-result-2
-nonzero-div-result-2 g c = h-some (g.met.N.Net.sound c.args.net.now) c.args.self.now.small_weights c.requires (reckoned g c)
+pub nonzero_div-result-2 : goal.nonzero_div-result-2
+nonzero_div-result-2 g c = h-some (g.met.N.Net.sound c.args.net.now) c.args.self.now.small_weights c.requires (reckoned g c)
 
-pub overflow-cast-result-2 : goal.overflow-cast-result-2
-overflow-cast-result-2 g c = addend-fits (g.met.N.Net.sound c.args.net.now) c.args.self.now.small_weights c.requires (reckoned g c)
+pub overflow_cast-result-2 : goal.overflow_cast-result-2
+overflow_cast-result-2 g c = addend-fits (g.met.N.Net.sound c.args.net.now) c.args.self.now.small_weights c.requires (reckoned g c)
 
 pub returns : goal.returns
 returns g c = record {

@@ -24,8 +24,8 @@ module _ (g : given.Over) (c : goal.After-product-sum g) where
   each : (p : ℕ) → p < (g.N.Net.net c.args.net.now).ground-places → nat_abs (incidence (g.N.Net.net c.args.net.now) p c.args.t) ≤ most-limit
   each p l = omega (arith, incidence-small (g.N.Net.net c.args.net.now) (g.met.N.Net.sound c.args.net.now) p c.args.t l)
 
-pub overflow-add-sum : goal.overflow-add-sum
-overflow-add-sum g c =
+pub overflow_add-sum : goal.overflow_add-sum
+overflow_add-sum g c =
     let n = g.N.Net.net c.args.net.now in
     more-fits (λ p. get_or c.args.self.now.weights p (pos 0)) (λ p. incidence n p c.args.t) c.args.self.now.small_weights
     n.ground-places (g.met.N.Net.sound c.args.net.now).ground-few (each g c) c.places.p (inside g c) _ c.product-sum.result c.places.invariant (term g c)

@@ -5,7 +5,6 @@ use Rattle.plant.proofs.Lowest.{sought-first, sought-on, found_here, found_nowhe
 use Rattle.rules.specs.Rules.{worked-of}
 use Rattle.rules.specs.Searching.{rising-at}
 use Rattle.rules.proofs.Finding.{held, rises, stays, found}
-use Rattle.rules.proofs.worked.WorkedRule.rising.Given as given
 use Rattle.rules.proofs.worked.WorkedRule.rising.Goals as goal
 use Rattle.rules.proofs.worked.WorkedRule.rising.Goals.{else-not-controllable-via-then-not-controllable+else-raise-gt0, else-not-controllable-via-else-not-controllable}
 
@@ -31,7 +30,7 @@ moves-preserved g c =
     let w = worked-of c.args.self.now in
     sought-on (rising n w) n.moves c.moves.t c.moves.invariant (omega (arith, c.moves-t-end.ensures))
     (elim c.else-not-controllable.branch [
-      | else-not-controllable-via-then-not-controllable+else-raise-gt0 d ↦ stays n w c.moves.t c.controllable.result c.controllable.ensures d.raise.result (record { sfits = d.raise.type-inv }) d.raise.ensures d.if-raise-gt0.false
+      | else-not-controllable-via-then-not-controllable+else-raise-gt0 d ↦ stays n w c.moves.t c.controllable.result c.controllable.ensures d.raise.result (record { sfits = d.raise.type_inv }) d.raise.ensures d.if-raise-gt0.false
       | else-not-controllable-via-else-not-controllable d ↦ held n w c.moves.t c.controllable.result c.controllable.ensures d.if-not-controllable.false
     ])
 
@@ -41,7 +40,7 @@ returns-then-give-take g c =
     let w = worked-of c.args.self.now in
     found n w c.moves.t (Some c.places.p)
     (found_here (rising n w) n.moves c.moves.t c.moves.invariant (omega (arith, c.moves-t-end.ensures))
-    (rises n w c.moves.t c.controllable.result c.controllable.ensures c.raise.result (record { sfits = c.raise.type-inv }) c.raise.ensures c.if-not-controllable.true c.if-raise-gt0.true))
+    (rises n w c.moves.t c.controllable.result c.controllable.ensures c.raise.result (record { sfits = c.raise.type_inv }) c.raise.ensures c.if-not-controllable.true c.if-raise-gt0.true))
     (found_here (falls n c.moves.t) n.ground-places c.places.p c.places.invariant (omega (arith, c.ground-p-end.ensures))
     (lt-ltb _ _ (omega (arith, c.give.ensures, c.take.ensures))))
 
@@ -51,7 +50,7 @@ returns-after-places g c =
     let w = worked-of c.args.self.now in
     found n w c.moves.t None
     (found_here (rising n w) n.moves c.moves.t c.moves.invariant (omega (arith, c.moves-t-end.ensures))
-    (rises n w c.moves.t c.controllable.result c.controllable.ensures c.raise.result (record { sfits = c.raise.type-inv }) c.raise.ensures c.if-not-controllable.true c.if-raise-gt0.true))
+    (rises n w c.moves.t c.controllable.result c.controllable.ensures c.raise.result (record { sfits = c.raise.type_inv }) c.raise.ensures c.if-not-controllable.true c.if-raise-gt0.true))
     (found_nowhere (falls n c.moves.t) n.ground-places c.places.p c.places.invariant (omega (arith, c.ground-p-end.ensures)))
 
 pub returns-after-moves : goal.returns-after-moves

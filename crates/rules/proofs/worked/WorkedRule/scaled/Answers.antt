@@ -20,7 +20,7 @@ places-preserved c =
     let w : to_z w32 (of_z w32 (get_or c.args.self.now.weights c.places.p (pos 0))) ≡ get_or c.args.self.now.weights c.places.p (pos 0) = omega (arith, ints, c.args.self.now.small_weights c.places.p) in
     one-more-set c.places.weights (λ q. f *ℤ get_or c.args.self.now.weights q (pos 0)) c.places.p (to_z w32 (of_z w32 c.product.result))
     c.places.invariant.0 c.places-test.true c.places.invariant.1
-    (to_z-of_z w32 c.product.result (record { sfits = c.product.type-inv }) ∙ c.product.ensures ∙ ap (λ z. f *ℤ z) w)
+    (to_z-of_z w32 c.product.result (record { sfits = c.product.type_inv }) ∙ c.product.ensures ∙ ap (λ z. f *ℤ z) w)
 
 pub returns : goal.returns
 returns c p =

@@ -6,8 +6,8 @@ use Rattle.rules.proofs.Terms.{product-fits, tokens-few, sum-small, more-fits, m
 use Rattle.rules.proofs.worked.WorkedRule.weighted.Given as given
 use Rattle.rules.proofs.worked.WorkedRule.weighted.Goals as goal
 
-pub overflow-cast-free : goal.overflow-cast-free
-overflow-cast-free g c =
+pub overflow_cast-free : goal.overflow_cast-free
+overflow_cast-free g c =
     let few = tokens-few (g.P.Net.net c.args.plant.now) (g.met.P.Net.sound c.args.plant.now) (g.P.Plant.tokens c.args.plant.now) (g.met.P.Plant.within c.args.plant.now) c.places.p (omega (arith, c.ground-p-end.ensures)) in
     omega (arith, ints, few)
 
@@ -28,8 +28,8 @@ module _ (g : given.Over) (c : goal.After-product-sum g) where
       let b : to_z w32 c.free.result ≡ pos (g.P.Plant.tokens c.args.plant.now c.places.p) = omega (arith, ints) in
       c.product-sum.ensures ∙ ap₂ (λ x y. x *ℤ y) a b
 
-pub overflow-add-sum : goal.overflow-add-sum
-overflow-add-sum g c =
+pub overflow_add-sum : goal.overflow_add-sum
+overflow_add-sum g c =
     let s = c.args.plant.now in
     more-fits (λ p. get_or c.args.self.now.weights p (pos 0)) (λ p. pos (g.P.Plant.tokens s p)) c.args.self.now.small_weights
     (g.P.Net.net s).ground-places (g.met.P.Net.sound s).ground-few (tokens-few (g.P.Net.net c.args.plant.now) (g.met.P.Net.sound c.args.plant.now) (g.P.Plant.tokens c.args.plant.now) (g.met.P.Plant.within c.args.plant.now)) c.places.p (inside g c) _ c.product-sum.result c.places.invariant (term g c)
