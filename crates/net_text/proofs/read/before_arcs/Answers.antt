@@ -4,4 +4,4 @@ use Rattle.texts.proofs.Checking.{none-map}
 use Rattle.net_text.proofs.read.before_arcs.Goals as goal
 
 pub returns : goal.returns
-returns c = c.is-empty.ensures ∙ sym (none-map arc-of c.args.net.now.arcs)
+returns c = c.is_empty.ensures ∙ sym (none-map arc-of c.args.net.now.arcs)

@@ -4,18 +4,18 @@ use Rattle.net_text.specs.Nets.{net-of}
 use Rattle.net_text.proofs.Adding.{checked-refuses, move_step, move-located}
 use Rattle.net_text.proofs.reader.add_move.Goals as goal
 
-pub returns-in-err-read : goal.returns-in-err-read
-returns-in-err-read c =
-    let p = err_from_is_err_and c.from-residual.result c.from-residual.ensures.1 in
+pub returns-in_err-read : goal.returns-in_err-read
+returns-in_err-read c =
+    let p = err_from_is_err_and c.from_residual.result c.from_residual.ensures.1 in
     rw (p.1, p.2)
     (record {
-      step = checked-refuses (move-checks (net-of c.args.text.now c.args.net.now) c.args.at.byte c.args.name.now c.args.letter.now) c.args.at.line _ _ _ c.in-err-read.ensures;
+      step = checked-refuses (move-checks (net-of c.args.text.now c.args.net.now) c.args.at.byte c.args.name.now c.args.letter.now) c.args.at.line _ _ _ c.in_err-read.ensures;
       located = tt;
     })
 
 pub returns : goal.returns
 returns c =
     record {
-      step = move_step c.args.text.now c.args.net.now c.push.new.self _ c.args.at.line c.args.at.byte c.args.name.now c.args.letter.now c.in-ok-push.ensures.items c.in-ok-read.ensures c.requires.0.0;
-      located = move-located c.args.text.now c.args.net.now c.push.new.self _ c.args.at.line c.args.at.byte c.args.name.now c.args.letter.now c.in-ok-push.ensures.items c.in-ok-read.ensures c.requires.0.0;
+      step = move_step c.args.text.now c.args.net.now c.push.new.self _ c.args.at.line c.args.at.byte c.args.name.now c.args.letter.now c.in_ok-push.ensures.items c.in_ok-read.ensures c.requires.stands.0;
+      located = move-located c.args.text.now c.args.net.now c.push.new.self _ c.args.at.line c.args.at.byte c.args.name.now c.args.letter.now c.in_ok-push.ensures.items c.in_ok-read.ensures c.requires.stands.0;
     }

@@ -5,18 +5,18 @@ use Rattle.net_text.specs.Nets.{net-of}
 use Rattle.net_text.proofs.Adding.{checked-refuses, place-step, place-located}
 use Rattle.net_text.proofs.reader.add_place.Goals as goal
 
-pub returns-in-err-place : goal.returns-in-err-place
-returns-in-err-place c =
-    let p = err_from_is_err_and c.from-residual.result c.from-residual.ensures.1 in
+pub returns-in_err-place : goal.returns-in_err-place
+returns-in_err-place c =
+    let p = err_from_is_err_and c.from_residual.result c.from_residual.ensures.1 in
     rw (p.1, p.2)
     (record {
-      step = checked-refuses (place-checks (net-of c.args.text.now c.args.net.now) c.args.at.byte c.args.name.now c.args.tokens.now c.args.limit.now) c.args.at.line _ _ _ c.in-err-place.ensures;
+      step = checked-refuses (place-checks (net-of c.args.text.now c.args.net.now) c.args.at.byte c.args.name.now c.args.tokens.now c.args.limit.now) c.args.at.line _ _ _ c.in_err-place.ensures;
       located = tt;
     })
 
 pub returns : goal.returns
 returns c =
     record {
-      step = place-step c.args.text.now c.args.net.now c.push.new.self _ c.args.at.line c.args.at.byte c.args.name.now c.args.tokens.now c.args.limit.now c.in-ok-push.ensures.items c.in-ok-place.ensures c.requires.0.0;
-      located = place-located c.args.text.now c.args.net.now c.push.new.self _ c.args.at.line c.args.at.byte c.args.name.now c.args.tokens.now c.args.limit.now c.in-ok-push.ensures.items c.in-ok-place.ensures c.requires.0.0;
+      step = place-step c.args.text.now c.args.net.now c.push.new.self _ c.args.at.line c.args.at.byte c.args.name.now c.args.tokens.now c.args.limit.now c.in_ok-push.ensures.items c.in_ok-place.ensures c.requires.stands.0;
+      located = place-located c.args.text.now c.args.net.now c.push.new.self _ c.args.at.line c.args.at.byte c.args.name.now c.args.tokens.now c.args.limit.now c.in_ok-push.ensures.items c.in_ok-place.ensures c.requires.stands.0;
     }

@@ -13,11 +13,11 @@ is-single p = eqb p.limit 1
 abbrev singles : List ℕ → List Place → Bool
 singles bs ps = all (λ (p : said.Place). eqb p.limit 1) (map (place_of bs) ps)
 
-pub returns-then-not-is-single : goal.returns-then-not-is-single
-returns-then-not-is-single c = λ bs. sym (each-stops is-single (singles bs) refl (λ _ _. refl) c.args.places.now c.loop-place.place-index no_place c.loop-place-test.true (c.loop-place.invariant bs) (sym c.if-not-is-single.ensures))
+pub returns-then-not-is_single : goal.returns-then-not-is_single
+returns-then-not-is_single c = λ bs. sym (each-stops is-single (singles bs) refl (λ _ _. refl) c.args.places.now c.loop-place.place-index no_place c.loop-place-test.true (c.loop-place.invariant bs) (sym c.if-not-is_single.ensures))
 
 pub loop-place-preserved : goal.loop-place-preserved
-loop-place-preserved c = λ bs. each_goes is-single (singles bs) refl (λ _ _. refl) c.args.places.now c.loop-place.place-index no_place c.loop-place-test.true (c.loop-place.invariant bs) (sym c.if-not-is-single.ensures)
+loop-place-preserved c = λ bs. each_goes is-single (singles bs) refl (λ _ _. refl) c.args.places.now c.loop-place.place-index no_place c.loop-place-test.true (c.loop-place.invariant bs) (sym c.if-not-is_single.ensures)
 
 pub returns : goal.returns
 returns c = λ bs. sym (each-ends is-single (singles bs) refl (λ _ _. refl) c.args.places.now c.loop-place.place-index c.loop-place-test.false (c.loop-place.invariant bs))

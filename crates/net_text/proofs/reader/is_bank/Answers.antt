@@ -7,4 +7,4 @@ pub returns-then-len-ne0 : goal.returns-then-len-ne0
 returns-then-len-ne0 c = λ bs. let p = count_map (place_of bs) c.args.net.now.places in let m = count_map (move-of bs) c.args.net.now.moves in search rules
 
 pub returns : goal.returns
-returns c = λ bs. let p = count_map (place_of bs) c.args.net.now.places in let m = count_map (move-of bs) c.args.net.now.moves in let s = c.all-single.ensures bs in search rules
+returns c = λ bs. let p = count_map (place_of bs) c.args.net.now.places in let m = count_map (move-of bs) c.args.net.now.moves in let s = c.all_single.ensures bs in search rules
