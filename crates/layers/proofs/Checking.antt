@@ -1,11 +1,11 @@
 -- What the checks of a setting come to, once the layer is not shut and the row has no rule.
-use Rattle.std.proofs.Common.{◌≡◌, ℕ, ◌<◌, Bool, true, false, not, ℤ, pos, ◌-ℤ◌, Ok, Err, Result, sym, refl, ap, ◌∙◌, ap₂, arith}
+use Rattle.std.proofs.Common.{◌≡◌, ℕ, ◌<◌, Bool, true, false, not, ℤ, pos, ◌-ℤ◌, Ok, Err, Result, sym, ap, ◌∙◌, ap₂, arith}
 use lib.Signed.{lt_z, le_z}
 use Rattle.std.proofs.lemmas.Int.{ints}
 use Rattle.std.proofs.lemmas.Bool.{lt-ltb}
 use Rattle.model.specs.declared.refusal.Refusal.TheVariants.{NoRow, Shut, RowInUse, Broken}
 use Rattle.model.specs.declared.fault.Fault.{Fault}
-use Rattle.model.specs.Plant.{Answer, refuse-unless, setting-fault, ◌else-by◌}
+use Rattle.model.specs.Plant.{refuse-unless, setting-fault, ◌else-by◌}
 use Rattle.model.specs.Rule.{Rule, Worked, weighted-free}
 use Rattle.model.specs.Working.{work}
 use Rattle.model.specs.Layer.{Pile, row_count, is-shut, open-rows, holds-now, top-answer, board-answer}

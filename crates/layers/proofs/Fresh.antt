@@ -1,9 +1,9 @@
 -- A new layer: what its pile is.
 use Rattle.std.proofs.Common.{◌≡◌, ℕ, sym, refl, subst}
 use Rattle.model.specs.Net.{Net}
-use Rattle.model.specs.Layer.{Row, blank, Top, Pile, row_count}
+use Rattle.model.specs.Layer.{Row, blank, Top, row_count}
 use Rattle.model.proofs.LayerCalls.{new-rows, above-all}
-use Rattle.layers.specs.Piles.{new-pile, Fresh}
+use Rattle.layers.specs.Piles.{Fresh}
 
 pub fresh : (top : Top) (n : Net) (free : ℕ → ℕ) (rows : ℕ → Row) → rows ≡ (λ r. blank) → Fresh top n free (record { top = top; below = n; below_free = free; rows = rows })
 fresh top n free rows e = subst (λ (f : ℕ → Row). Fresh top n free (record { top = top; below = n; below_free = free; rows = f })) (sym e) (record {

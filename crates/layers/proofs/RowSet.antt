@@ -5,7 +5,7 @@ use Rattle.std.proofs.lemmas.Int.{ints}
 use Rattle.model.specs.declared.fault.Fault.{Fault}
 use Rattle.model.specs.Net.{Net, Ranges}
 use Rattle.model.specs.Rule.{Rule, Worked, raise, positive, weighted-free}
-use Rattle.model.specs.Sizes.{most-limit, most-worked-weight, most-worked-bound, control-limit}
+use Rattle.model.specs.Sizes.{most-worked-weight, most-worked-bound, control-limit}
 use Rattle.model.specs.Working.{work}
 use Rattle.model.specs.Layer.{Row, Pile, row_count, holds-now, ruled-row, change-row, top-answer}
 use Rattle.model.proofs.JustSet.{set-row}

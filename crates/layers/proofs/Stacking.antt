@@ -1,8 +1,8 @@
 -- A board over a monitor that was set: one of the piles that can be built.
-use Rattle.std.proofs.Common.{◌≡◌, ℕ, ◌≤◌, [], ◌∷◌, Ok, sym, refl, ap, ◌∙◌, subst}
+use Rattle.std.proofs.Common.{◌≡◌, ℕ, ◌≤◌, Ok, sym, refl, ap, ◌∙◌, subst}
 use Rattle.model.specs.Net.{Net, Ranges}
 use Rattle.model.specs.Rule.{Rule}
-use Rattle.model.specs.Layer.{Pile, monitor, board, plant-alone, with-layer, with-rule, in-force, monitor-answer, pile-net, pile-free, Built, bare, monitored, boarded, monitor-set}
+use Rattle.model.specs.Layer.{Pile, monitor, board, with-layer, monitor-answer, pile-net, pile-free, bare, monitored, boarded, monitor-set}
 use Rattle.layers.specs.Piles.{new-pile}
 use Rattle.layers.specs.Setting.{SetTo}
 use Rattle.layers.specs.Stacking.{Stacked}

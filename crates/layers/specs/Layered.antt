@@ -1,5 +1,5 @@
 -- The number of a layer: found place by place, and never above the layer's first place.
-use Rattle.std.specs.Prelude.{◌≡◌, ℕ, ◌+◌, ◌<◌, ◌≤◌, max, Bool, true, false, cond, ltb, leb, refl}
+use Rattle.std.specs.Prelude.{◌≡◌, ℕ, ◌+◌, ◌≤◌, max, Bool, true, false, refl}
 use Rattle.std.proofs.Common.{ap, subst, sym, add-one, arith}
 use Rattle.model.specs.Net.{Net, Ranges}
 use Rattle.model.specs.Layer.{Row, is-shut, next-layer, layer-net}

@@ -10,7 +10,7 @@ use Rattle.model.specs.Layer as model
 use Rattle.layers.specs.declared.row.Row.{Row}
 
 abbrev pub row_of : Row → model.Row
-row_of r = record { take = λ t. slice_index r.take t; give = λ t. slice_index r.give t; free = r.free; in-use = r.in_use }
+row_of r = record { take = λ t. slice_index r.take t; give = λ t. slice_index r.give t; free = r.free; in_use = r.in_use }
 
 abbrev pub nothing : Row
 nothing = record { take = []; give = []; free = 0; in_use = false }
@@ -22,4 +22,4 @@ abbrev pub only : Row → ℕ → model.Row
 only row r = cond (r == 0) (row_of row) model.blank
 
 abbrev pub rule-row : (ℕ → ℤ) → ℕ → model.Row
-rule-row raises free = record { take = λ t. positive (raises t); give = λ t. negative (raises t); free = free; in-use = true }
+rule-row raises free = record { take = λ t. positive (raises t); give = λ t. negative (raises t); free = free; in_use = true }

@@ -1,11 +1,13 @@
 // Monitors and boards: layers put on a plant, each a plant again.
+#![tactic(auto)]
+
+pub mod as_net;
+pub mod as_plant;
 pub mod board;
 mod fault;
 pub mod layer;
 pub mod monitor;
-pub mod net;
 pub mod pile;
-pub mod plant;
 pub mod row;
 pub mod rows;
 mod setting;

@@ -1,5 +1,5 @@
 // The rows of a layer, behind one trait, so that what a layer does is written once.
-ghost use Rattle.std.specs.Prelude.{◌≡◌, ℕ, ◌+◌, ◌-◌, ◌<◌, ◌≤◌, get_or, pos, nat_lt, slice_index_or, unsigned_abs};
+ghost use Rattle.std.specs.Prelude.{◌≡◌, ℕ, ◌+◌, ◌-◌, ◌<◌, ◌≤◌, pos, nat_lt, slice_index_or, unsigned_abs};
 ghost use Rattle.layers.specs.Rows.{rule-row};
 ghost use Rattle.model.specs.Layer.{Row as RowValue, Top, row_count, blank, row-with, change-row};
 ghost use Rattle.model.specs.Plant.{lowest};
@@ -36,13 +36,16 @@ pub trait Rows {
 
     // The row `r` has so many tokens; no other row changes.
     fn set_free(&mut self, r: usize, free: u32)
-        requires { (r < row_count top) × (free ≤ control-limit) }
+        requires row { r < row_count top }
+        requires room { free ≤ control-limit }
         ensures { rows self.new ≡ change-row (rows self.old) r (row-with (rows self.old r) free) };
 
     // The row `r` is that of a rule, by what each move raises it, with so many tokens; no other row changes.
     fn set_rule(&mut self, r: usize, raises: &[i32; MOST_MOVES], free: u32)
-        requires { (r < row_count top) × (free ≤ control-limit) × ((t : ℕ) → unsigned_abs (slice_index_or raises.now t (pos 0)) ≤ most-control-arc) }
-        ensures { rows self.new ≡ change-row (rows self.old) r (rule-row (λ t. get_or raises.now t (pos 0)) free) };
+        requires row { r < row_count top }
+        requires room { free ≤ control-limit }
+        requires small { (t : ℕ) → unsigned_abs (slice_index_or raises.now t (pos 0)) ≤ most-control-arc }
+        ensures { rows self.new ≡ change-row (rows self.old) r (rule-row (λ t. slice_index_or raises.now t (pos 0)) free) };
 
     // The lowest row that has fewer tokens than the move `t` takes there.
     fn short(&self, t: usize) -> Option<usize>

@@ -3,7 +3,7 @@ ghost use Rattle.std.specs.Prelude.{◌≡◌, ℕ, ◌<◌, ◌≤◌};
 ghost use Rattle.layers.specs.Rows.{row_of, only};
 ghost use Rattle.model.specs.Layer.{monitor, blank};
 ghost use Rattle.model.specs.Sizes.{control-limit, most-control-arc};
-ghost use Rattle.std.proofs.Common.{rules, arith};
+ghost use Rattle.std.proofs.Common.{rules};
 
 use crate::row::Row;
 use crate::rows::Rows;
@@ -32,19 +32,19 @@ impl Rows for Single {
 
     ghost rows = { λ s. only s.row };
 
-    ghost some = { first_of (Prim.search rules, Prim.grind (arith, Self.row.coded.inj)) };
+    ghost some = { Prim.search rules };
 
-    ghost few = { first_of (Prim.search rules, Prim.grind (arith, Self.row.coded.inj)) };
+    ghost few = { Prim.search rules };
 
-    ghost missing = { first_of (Prim.search rules, Prim.grind (arith, Self.row.coded.inj)) };
+    ghost missing = { Prim.search rules };
 
-    ghost one_way = { first_of (Prim.search rules, Prim.grind (arith, Self.row.coded.inj)) };
+    ghost one_way = { Prim.search rules };
 
-    ghost low = { first_of (Prim.search rules, Prim.grind (arith, Self.row.coded.inj)) };
+    ghost low = { Prim.search rules };
 
-    ghost small_takes = { first_of (Prim.search rules, Prim.grind (arith, Self.row.coded.inj)) };
+    ghost small_takes = { Prim.search rules };
 
-    ghost small_gives = { first_of (Prim.search rules, Prim.grind (arith, Self.row.coded.inj)) };
+    ghost small_gives = { Prim.search rules };
 
     fn count(&self) -> usize {
         1

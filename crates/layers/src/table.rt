@@ -36,19 +36,19 @@ impl Rows for Table {
 
     ghost rows = { λ s. rows_of s.rows };
 
-    ghost some = { first_of (Prim.search rules, Prim.grind (arith, Self.row.coded.inj)) };
+    ghost some = { Prim.search rules };
 
-    ghost few = { first_of (Prim.search rules, Prim.grind (arith, Self.row.coded.inj)) };
+    ghost few = { Prim.search rules };
 
     ghost missing = { λ s r l. rows-past s.rows r (omega (arith, s.all)) };
 
-    ghost one_way = { first_of (Prim.search rules, Prim.grind (arith, Self.row.coded.inj)) };
+    ghost one_way = { Prim.search rules };
 
-    ghost low = { first_of (Prim.search rules, Prim.grind (arith, Self.row.coded.inj)) };
+    ghost low = { Prim.search rules };
 
-    ghost small_takes = { first_of (Prim.search rules, Prim.grind (arith, Self.row.coded.inj)) };
+    ghost small_takes = { Prim.search rules };
 
-    ghost small_gives = { first_of (Prim.search rules, Prim.grind (arith, Self.row.coded.inj)) };
+    ghost small_gives = { Prim.search rules };
 
     fn count(&self) -> usize {
         BOARD_ROWS

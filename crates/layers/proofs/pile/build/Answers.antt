@@ -1,25 +1,24 @@
-use Rattle.std.proofs.Common.{◌≡◌, Ok, Err, sym, refl, ap, ◌∙◌, subst}
+use Rattle.std.proofs.Common.{refl, ap, ◌∙◌, subst}
 use Rattle.std.proofs.lemmas.Result.{err_from_is_err_and}
 use Rattle.model.specs.Layer.{Pile, monitor-answer}
 use Rattle.rules.specs.Rules.{rule-of}
-use Rattle.layers.specs.declared.layer.Layer.{Layer}
 use Rattle.layers.specs.Piles.{monitor-pile, stack-pile}
 use Rattle.layers.specs.Setting.{SetTo}
 use Rattle.layers.proofs.Stacking.{stacked}
 use Rattle.layers.proofs.pile.build.Goals as goal
 
-pub returns-in-err-set : goal.returns-in-err-set
-returns-in-err-set g c =
+pub returns-in_err-set : goal.returns-in_err-set
+returns-in_err-set g c =
     let typed = rule-of c.args.fixed.now in
-    let e = err_from_is_err_and c.from-residual.result c.from-residual.ensures.1 in
+    let e = err_from_is_err_and c.from_residual.result c.from_residual.ensures.1 in
     rw (e.1, e.2)
-    (record { answer = c.in-err-set.ensures.answer ∙ ap (λ (p : Pile). monitor-answer p typed) c.new-monitor.ensures.fresh.pile; kept = tt; pile = tt })
+    (record { answer = c.in_err-set.ensures.answer ∙ ap (λ (p : Pile). monitor-answer p typed) c.new-monitor.ensures.fresh.pile; kept = tt; pile = tt })
 
 pub returns : goal.returns
 returns g c =
     let typed = rule-of c.args.fixed.now in
     let new = c.new-monitor.ensures.fresh.pile in
-    let set = c.in-ok-set.ensures in
+    let set = c.in_ok-set.ensures in
     let ok = set.answer ∙ ap (λ (p : Pile). monitor-answer p typed) new in
     let after = monitor-pile g.P.Net.net g.P.Plant.tokens c.set.new.self in
     record {

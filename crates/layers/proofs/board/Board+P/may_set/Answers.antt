@@ -5,13 +5,13 @@ use Rattle.layers.specs.Piles.{board-pile}
 use Rattle.layers.proofs.Checking.{board-row}
 use Rattle.layers.proofs.board.Board+P.may_set.Goals as goal
 
-pub returns-in-err-check-rule : goal.returns-in-err-check-rule
-returns-in-err-check-rule g c =
+pub returns-in_err-check_rule : goal.returns-in_err-check_rule
+returns-in_err-check_rule g c =
     let p = board-pile g.P.Net.net g.P.Plant.tokens c.args.self.now in
-    let e = err_from_is_err_and c.from-residual.result c.from-residual.ensures.1 in
-    rw (e.1, e.2) (c.in-err-check-rule.ensures.answer ∙ board-row p c.args.r (rule-of c.args.typed.now) (omega arith))
+    let e = err_from_is_err_and c.from_residual.result c.from_residual.ensures.1 in
+    rw (e.1, e.2) (c.in_err-check_rule.ensures.answer ∙ board-row p c.args.r (rule-of c.args.typed.now) (omega arith))
 
 pub returns : goal.returns
 returns g c =
     let p = board-pile g.P.Net.net g.P.Plant.tokens c.args.self.now in
-    c.in-ok-check-rule.ensures.answer ∙ board-row p c.args.r (rule-of c.args.typed.now) (omega arith)
+    c.in_ok-check_rule.ensures.answer ∙ board-row p c.args.r (rule-of c.args.typed.now) (omega arith)

@@ -8,8 +8,8 @@ pub returns : goal.returns
 returns g c =
     let p = board-pile g.P.Net.net g.P.Plant.tokens c.args.self.now in
     record {
-      answer = c.set-row.ensures.answer ∙ board-row p c.args.r (rule-of c.args.typed.now) (omega arith);
-      below = c.set-row.ensures.below;
-      refused = c.set-row.ensures.refused;
-      set = c.set-row.ensures.set;
+      answer = c.set_row.ensures.answer ∙ board-row p c.args.r (rule-of c.args.typed.now) (omega arith);
+      below = c.set_row.ensures.below;
+      refused = c.set_row.ensures.refused;
+      set = c.set_row.ensures.set;
     }

@@ -1,4 +1,4 @@
-use Rattle.std.proofs.Common.{◌≡◌, true, false, ℤ, pos, Ok, Err, sym, ap, ◌∙◌, subst, w32, SFits, rules}
+use Rattle.std.proofs.Common.{◌≡◌, true, false, ℤ, pos, Err, sym, ◌∙◌, subst, w32, SFits, rules}
 use lib.Signed.{lt_z}
 use Rattle.std.proofs.lemmas.Result.{err_from_is_err_and}
 use Rattle.std.proofs.lemmas.Int.{to_z-of_z}
@@ -10,32 +10,32 @@ use Rattle.layers.specs.Setting.{Checks}
 use Rattle.layers.proofs.Checking.{above-bound, within-bound, not-worked, broken, holds}
 use Rattle.layers.proofs.layer.Layer.check_rule.Goals as goal
 
-pub returns-in-err-rule : goal.returns-in-err-rule
-returns-in-err-rule g c =
+pub returns-in_err-rule : goal.returns-in_err-rule
+returns-in_err-rule g c =
     let p = pile-of g.R.Rows.top g.P.Net.net g.P.Plant.tokens g.R.Rows.rows c.args.self.now in
-    let e = err_from_is_err_and c.from-residual.result c.from-residual.ensures.1 in
+    let e = err_from_is_err_and c.from_residual.result c.from_residual.ensures.1 in
     rw (e.1, e.2)
-    (not-worked p c.args.r (rule-of c.args.typed.now) (sym c.if-is-shut.ensures) (sym c.if-in-use.ensures) _ c.in-err-rule.ensures.answer)
+    (not-worked p c.args.r (rule-of c.args.typed.now) (sym c.if-is_shut.ensures) (sym c.if-in_use.ensures) _ c.in_err-rule.ensures.answer)
 
 pub returns-then-spare-lt0 : goal.returns-then-spare-lt0
 returns-then-spare-lt0 g c =
     let s = c.args.self.now in
     let p = pile-of g.R.Rows.top g.P.Net.net g.P.Plant.tokens g.R.Rows.rows s in
-    let w = worked-of c.in-ok-rule.rule in
+    let w = worked-of c.in_ok-rule.rule in
     let sum = weighted-free (g.P.Net.net s.below) w.weight (g.P.Plant.tokens s.below) in
     let fits : SFits w32 c.spare.result = search rules in
     let spare = to_z-of_z w32 c.spare.result fits ∙ c.spare.ensures in
     let over = above-bound w.bound sum (subst (λ (z : ℤ). lt_z z (pos 0) ≡ true) spare c.if-spare-lt0.true) in
     subst (λ (f : Fault). Checks p c.args.r (rule-of c.args.typed.now) (Err f)) (sym c.fault-then-spare-lt0.ensures)
-    (broken p c.args.r (rule-of c.args.typed.now) (sym c.if-is-shut.ensures) (sym c.if-in-use.ensures) w c.in-ok-rule.ensures.answer over)
+    (broken p c.args.r (rule-of c.args.typed.now) (sym c.if-is_shut.ensures) (sym c.if-in_use.ensures) w c.in_ok-rule.ensures.answer over)
 
 pub returns : goal.returns
 returns g c =
     let s = c.args.self.now in
     let p = pile-of g.R.Rows.top g.P.Net.net g.P.Plant.tokens g.R.Rows.rows s in
-    let w = worked-of c.in-ok-rule.rule in
+    let w = worked-of c.in_ok-rule.rule in
     let sum = weighted-free (g.P.Net.net s.below) w.weight (g.P.Plant.tokens s.below) in
     let fits : SFits w32 c.spare.result = search rules in
     let spare = to_z-of_z w32 c.spare.result fits ∙ c.spare.ensures in
     let within = within-bound w.bound sum (subst (λ (z : ℤ). lt_z z (pos 0) ≡ false) spare c.if-spare-lt0.false) in
-    holds p c.args.r (rule-of c.args.typed.now) (sym c.if-is-shut.ensures) (sym c.if-in-use.ensures) w c.in-ok-rule.ensures.answer within
+    holds p c.args.r (rule-of c.args.typed.now) (sym c.if-is_shut.ensures) (sym c.if-in_use.ensures) w c.in_ok-rule.ensures.answer within

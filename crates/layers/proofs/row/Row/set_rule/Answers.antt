@@ -1,4 +1,4 @@
-use Rattle.std.proofs.Common.{◌≡◌, ◌+◌, ◌<◌, true, length, get_or, pos, sym, refl, ap, ◌∙◌, subst, arith, w32, SFits, rules}
+use Rattle.std.proofs.Common.{◌+◌, true, get_or, pos, sym, refl, ap, ◌∙◌, subst, arith, w32, SFits, rules}
 use Rattle.std.proofs.lemmas.List.{length-set}
 use Rattle.std.proofs.lemmas.Int.{to_z-of_z}
 use Rattle.model.specs.Rule.{positive, negative}
@@ -21,7 +21,7 @@ moves-preserved c =
     let t = c.moves.t in
     let fits : SFits w32 (get_or is t (pos 0)) = search rules in
     let same = to_z-of_z w32 (get_or is t (pos 0)) fits in
-    subst (λ (r : Row). BothWritten is (t + 1) r.take r.give) (sym c.set-arc.ensures)
+    subst (λ (r : Row). BothWritten is (t + 1) r.take r.give) (sym c.set_arc.ensures)
     (record {
       taking = written-more positive is t _ c.moves.self.take (omega arith) (ap positive same) c.moves.invariant.taking;
       giving = written-more negative is t _ c.moves.self.give (omega arith) (ap negative same) c.moves.invariant.giving;

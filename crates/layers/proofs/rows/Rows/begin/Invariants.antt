@@ -1,4 +1,4 @@
-use Rattle.std.proofs.Common.{◌+◌, ◌-◌}
+use Rattle.std.proofs.Common.{◌-◌}
 use Rattle.layers.proofs.Rowwise.{Changed}
 use Rattle.layers.proofs.rows.Rows.begin.Given as goal
 

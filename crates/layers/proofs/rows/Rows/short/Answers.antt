@@ -1,7 +1,6 @@
-use Rattle.std.proofs.Common.{◌+◌, ltb, sym, arith}
+use Rattle.std.proofs.Common.{ltb, sym, arith}
 use Rattle.std.proofs.lemmas.Bool.{lt-ltb, le-ltb}
 use Rattle.model.specs.Layer.{row_count}
-use Rattle.model.specs.Sizes.{control-limit}
 use Rattle.plant.proofs.Lowest.{found_here, sought-on}
 use Rattle.layers.proofs.rows.Rows.short.Goals as goal
 

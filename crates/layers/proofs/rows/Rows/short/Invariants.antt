@@ -1,6 +1,5 @@
-use Rattle.std.proofs.Common.{◌+◌, ltb}
+use Rattle.std.proofs.Common.{ltb}
 use Rattle.model.specs.Layer.{row_count}
-use Rattle.model.specs.Sizes.{control-limit}
 use Rattle.plant.proofs.Lowest.{Sought}
 use Rattle.layers.proofs.rows.Rows.short.Given as goal
 

@@ -5,7 +5,7 @@ use Rattle.model.specs.Sizes.{board-rows}
 use Rattle.layers.specs.Kept.{rows-past}
 use Rattle.layers.proofs.table.TableRows.in_use.Goals as goal
 
-pub returns-else-r-lt-BOARD-ROWS : goal.returns-else-r-lt-BOARD-ROWS
-returns-else-r-lt-BOARD-ROWS c =
+pub returns-else-r-lt-BOARD_ROWS : goal.returns-else-r-lt-BOARD_ROWS
+returns-else-r-lt-BOARD_ROWS c =
     le-ltb c.args.r board-rows (omega arith)
     ∙ sym (ap (λ (x : Row). x.in_use) (rows-past c.args.self.now.rows c.args.r (omega (arith, c.args.self.now.all))))

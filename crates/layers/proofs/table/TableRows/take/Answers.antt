@@ -3,5 +3,5 @@ use Rattle.model.specs.Layer.{Row}
 use Rattle.layers.specs.Kept.{rows-past}
 use Rattle.layers.proofs.table.TableRows.take.Goals as goal
 
-pub returns-else-r-lt-BOARD-ROWS : goal.returns-else-r-lt-BOARD-ROWS
-returns-else-r-lt-BOARD-ROWS c = sym (ap (λ (x : Row). x.take c.args.t) (rows-past c.args.self.now.rows c.args.r (omega (arith, c.args.self.now.all))))
+pub returns-else-r-lt-BOARD_ROWS : goal.returns-else-r-lt-BOARD_ROWS
+returns-else-r-lt-BOARD_ROWS c = sym (ap (λ (x : Row). x.take c.args.t) (rows-past c.args.self.now.rows c.args.r (omega (arith, c.args.self.now.all))))

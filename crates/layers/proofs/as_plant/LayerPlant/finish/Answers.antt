@@ -1,31 +1,30 @@
 use Rattle.std.proofs.Common.{sym, ap, ◌∙◌}
-use Rattle.model.specs.Net.{Net}
 use Rattle.model.specs.Plant.{finish-answer}
 use Rattle.model.specs.Layer.{row_count, is-shut, layer-net, layer-free, rows-finish}
 use Rattle.model.proofs.Checks.{err-not-ok}
 use Rattle.model.proofs.LayerCalls.{layer-begins}
 use Rattle.plant.proofs.Answering.{fits}
 use Rattle.layers.proofs.Calls.{accepted-below, accepted-own, finish-fits}
-use Rattle.layers.proofs.plant.LayerPlant.finish.Goals as goal
+use Rattle.layers.proofs.as_plant.LayerPlant.finish.Goals as goal
 
 -- accepted as a whole, so not refused below
-pub returns-in-err-finish : goal.returns-in-err-finish
-returns-in-err-finish g c =
+pub returns-in_err-finish : goal.returns-in_err-finish
+returns-in_err-finish g c =
     let s = c.args.self.now in
     let size = row_count g.R.Rows.top in
     let n = g.P.Net.net s.below in
     let free = g.P.Plant.tokens s.below in
     let rows = g.R.Rows.rows s.rows in
-    let ok = c.in-ok-may-finish.ensures in
-    absurd (err-not-ok _ (c.in-err-finish.ensures.answer ∙ accepted-below size n (finish-answer (layer-net size n rows) (layer-free size n free rows) c.args.t) (finish-answer n free c.args.t) (rows-finish size n rows c.args.t) (layer-begins size n free rows c.args.t).1 ok))
+    let ok = c.in_ok-may_finish.ensures in
+    absurd (err-not-ok _ (c.in_err-finish.ensures.answer ∙ accepted-below size n (finish-answer (layer-net size n rows) (layer-free size n free rows) c.args.t) (finish-answer n free c.args.t) (rows-finish size n rows c.args.t) (layer-begins size n free rows c.args.t).1 ok))
 
-pub finish-requires-then-not-is-shut : goal.finish-requires-then-not-is-shut
-finish-requires-then-not-is-shut g c =
+pub finish-requires-then-not-is_shut : goal.finish-requires-then-not-is_shut
+finish-requires-then-not-is_shut g c =
     let s = c.args.self.now in
     let size = row_count g.R.Rows.top in
     let n = g.P.Net.net s.below in
     let free = g.P.Plant.tokens s.below in
     let rows = g.R.Rows.rows s.rows in
-    let ok = c.in-ok-may-finish.ensures in
-    let clear = (ap (is-shut size) (sym c.finish.ensures.same) ∙ sym c.if-not-is-shut.ensures) in
+    let ok = c.in_ok-may_finish.ensures in
+    let clear = (ap (is-shut size) (sym c.finish.ensures.same) ∙ sym c.if-not-is_shut.ensures) in
     finish-fits size n rows c.args.t (fits n free (λ p. n.give p c.args.t) c.args.t (sym (accepted-below size n (finish-answer (layer-net size n rows) (layer-free size n free rows) c.args.t) (finish-answer n free c.args.t) (rows-finish size n rows c.args.t) (layer-begins size n free rows c.args.t).1 ok))).0 (accepted-own size n (finish-answer (layer-net size n rows) (layer-free size n free rows) c.args.t) (finish-answer n free c.args.t) (rows-finish size n rows c.args.t) (layer-begins size n free rows c.args.t).1 clear ok)

@@ -5,18 +5,18 @@ use Rattle.model.specs.Layer.{row_count, is-shut, layer-net, layer-free, rows_ba
 use Rattle.model.proofs.Checks.{err-not-ok}
 use Rattle.model.proofs.LayerCalls.{layer-begins}
 use Rattle.layers.proofs.Calls.{accepted-below, accepted-own, back_fits}
-use Rattle.layers.proofs.plant.LayerPlant.back.Goals as goal
+use Rattle.layers.proofs.as_plant.LayerPlant.back.Goals as goal
 
 -- accepted as a whole, so not refused below
-pub returns-in-err-back : goal.returns-in-err-back
-returns-in-err-back g c =
+pub returns-in_err-back : goal.returns-in_err-back
+returns-in_err-back g c =
     let s = c.args.self.now in
     let size = row_count g.R.Rows.top in
     let n = g.P.Net.net s.below in
     let free = g.P.Plant.tokens s.below in
     let rows = g.R.Rows.rows s.rows in
-    let ok = c.in-ok-may-back.ensures in
-    absurd (err-not-ok _ (c.in-err-back.ensures.answer ∙ accepted-below size n (back-answer (layer-net size n rows) (layer-free size n free rows) c.args.t) (back-answer n free c.args.t) (rows_back size n rows c.args.t) (layer-begins size n free rows c.args.t).2 ok))
+    let ok = c.in_ok-may_back.ensures in
+    absurd (err-not-ok _ (c.in_err-back.ensures.answer ∙ accepted-below size n (back-answer (layer-net size n rows) (layer-free size n free rows) c.args.t) (back-answer n free c.args.t) (rows_back size n rows c.args.t) (layer-begins size n free rows c.args.t).2 ok))
 
 pub back-requires-then-controllable : goal.back-requires-then-controllable
 back-requires-then-controllable g c =
@@ -25,6 +25,6 @@ back-requires-then-controllable g c =
     let n = g.P.Net.net s.below in
     let free = g.P.Plant.tokens s.below in
     let rows = g.R.Rows.rows s.rows in
-    let ok = c.in-ok-may-back.ensures in
-    let clear = (ap (is-shut size) (sym c.back.ensures.same) ∙ sym c.if-not-is-shut.ensures) in
+    let ok = c.in_ok-may_back.ensures in
+    let clear = (ap (is-shut size) (sym c.back.ensures.same) ∙ sym c.if-not-is_shut.ensures) in
     back_fits size n rows c.args.t (ap (λ (m : Net). m.controllable c.args.t) (sym c.back.ensures.same) ∙ sym c.if-controllable.ensures) (accepted-own size n (back-answer (layer-net size n rows) (layer-free size n free rows) c.args.t) (back-answer n free c.args.t) (rows_back size n rows c.args.t) (layer-begins size n free rows c.args.t).2 clear ok)
