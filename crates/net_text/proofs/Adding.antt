@@ -1,9 +1,8 @@
 -- A line that is read adds its place, move or arc to the net.
-use Rattle.std.proofs.Common.{◌≡◌, ℕ, ◌+◌, ◌<◌, ◌≤◌, Bool, true, false, cond, ◌&&◌, ◌⊎◌, List, [], ◌∷◌, ◌++◌, map, length, get_or, take, drop, IsErrAnd, Some, None, Ok, Err, vec_items, codes, Option, Result, Vec, sym, refl, ap, ◌∙◌, subst, ap₂, inl, inr, arith}
+use Rattle.std.proofs.Common.{◌≡◌, ℕ, ◌+◌, ◌<◌, ◌≤◌, Bool, true, false, cond, ◌&&◌, ◌⊎◌, List, [], ◌∷◌, ◌++◌, map, length, get_or, take, drop, Some, None, Ok, Err, vec_items, codes, Option, Vec, sym, refl, ap, ◌∙◌, subst, inl, inr, arith}
 use Rattle.std.specs.declared.alloc.Global.{Global}
 use Rattle.std.specs.Str.{bytes_eq}
-use Rattle.std.proofs.lemmas.List.{map_push, length_push, get_or_append_left, get_or_push, length-map}
-use Rattle.std.proofs.lemmas.Result.{err_from_is_err_and}
+use Rattle.std.proofs.lemmas.List.{map_push, length_push, get_or_append_left, get_or_push}
 use Rattle.std.proofs.lemmas.Bool.{cases_lt, and_parts, false≢true}
 use Rattle.formats.specs.declared.fault.TextFault.{TextFault}
 use Rattle.formats.specs.Words.{value, index_of, none}
@@ -16,14 +15,11 @@ use Rattle.net_text.specs.declared.net.Place.{Place}
 use Rattle.net_text.specs.declared.net.Move.{Move}
 use Rattle.net_text.specs.declared.net.Arc.{Arc}
 use Rattle.net_text.specs.declared.net.NetText.{NetText}
-use Rattle.texts.specs.declared.stop.ReadError.{ReadError}
-use Rattle.texts.specs.declared.stop.ReadError.TheVariants.{Refused, NoMemory}
 use Rattle.texts.specs.Spans.{span, checked}
 use Rattle.net_text.specs.Nets.{place_of, move-of, arc-of, net-of}
-use Rattle.texts.specs.Spans.{Told, line-start}
+use Rattle.texts.specs.Spans.{line-start}
 use Rattle.net_text.specs.Nets.{no_place, no_move}
-use Rattle.net_text.specs.Reading.{line_read, Stands, line-count, Located, Locates}
-use Rattle.texts.proofs.Checking.{goes}
+use Rattle.net_text.specs.Reading.{line_read, Locates}
 
 -- ---- the exits
 -- what was checked is refused: so is the line

@@ -1,5 +1,5 @@
 -- The checks of an arc line, group by group: its place, its move, what it takes and gives, and the pair.
-use Rattle.std.proofs.Common.{◌≡◌, ℕ, ◌+◌, List, [], ◌++◌, length, Ok, Err, Option, Result, sym, refl, ap, ◌∙◌, ap₂, subst₂}
+use Rattle.std.proofs.Common.{◌≡◌, ℕ, ◌+◌, List, [], ◌++◌, length, Ok, Err, Option, Result, sym, ap, ◌∙◌, subst₂}
 use Rattle.formats.specs.declared.fault.TextFault.{TextFault}
 use Rattle.formats.specs.Words.{index_of, value}
 use Rattle.formats.specs.Texts.{Check, first-failed, unless}

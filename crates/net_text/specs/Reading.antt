@@ -19,8 +19,6 @@ use Rattle.formats.specs.NetClauses.{Shape, net-meaning}
 use Rattle.formats.specs.NetClauses.Shape.{a-plant, a-place, a_move, an-arc, no_record}
 use Rattle.formats.specs.ReadNet.{checks, after, is_whole, read-net}
 use Rattle.texts.specs.declared.stop.ReadError.{ReadError}
-use Rattle.net_text.specs.declared.net.Place.{Place}
-use Rattle.net_text.specs.declared.net.Move.{Move}
 use Rattle.net_text.specs.declared.net.NetText.{NetText}
 use Rattle.texts.specs.Spans.{Told, line-start}
 use Rattle.net_text.specs.Nets.{net-of, no_place, no_move}

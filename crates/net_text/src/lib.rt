@@ -1,4 +1,6 @@
 // The reader of the net text, proved equal to its definition in `formats`.
+#![tactic(auto)]
+
 pub mod named;
 pub mod net;
 pub mod read;

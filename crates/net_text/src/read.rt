@@ -145,7 +145,7 @@ pub(crate) fn read_place(
     limit: &[u8],
 ) -> Result<Place, TextFault>
     requires { at.byte + 6 + length name.now + 1 + length tokens.now + 1 < 2 ^ 64 }
-    ensures { result ≡ checked (place-checks (net-of text.now net.now) at.byte name.entry.now tokens.now limit.now) at.line (record { name = span (at.byte + 6) (length name.entry.now); tokens = value tokens.now; limit = value limit.now }) }
+    ensures { result ≡ checked (place-checks (net-of text.now net.now) at.byte name.now tokens.now limit.now) at.line (record { name = span (at.byte + 6) (length name.now); tokens = value tokens.now; limit = value limit.now }) }
 {
     check_place_line(net, at)?;
     let name_at = at.byte + 6;
@@ -205,7 +205,7 @@ pub(crate) fn read_move(
     letter: &[u8],
 ) -> Result<Move, TextFault>
     requires { at.byte + 5 + length name.now + 1 < 2 ^ 64 }
-    ensures { result ≡ checked (move-checks (net-of text.now net.now) at.byte name.entry.now letter.now) at.line (record { name = span (at.byte + 5) (length name.entry.now); controllable = bytes_eq letter.now (codes "c") }) }
+    ensures { result ≡ checked (move-checks (net-of text.now net.now) at.byte name.now letter.now) at.line (record { name = span (at.byte + 5) (length name.now); controllable = bytes_eq letter.now (codes "c") }) }
 {
     check_move_line(net, at)?;
     let name_at = at.byte + 5;
@@ -254,7 +254,7 @@ pub(crate) fn read_arc(
     give: &[u8],
 ) -> Result<Arc, TextFault>
     requires { at.byte + 4 + length place.now + 1 + length transition.now + 1 + length take.now + 1 < 2 ^ 64 }
-    ensures { result ≡ checked (arc-checks (net-of text.now net.now) at.byte place.entry.now transition.now take.now give.now) at.line (record { place = index_of (place-names (net-of text.now net.now)) place.entry.now; transition = index_of (move-names (net-of text.now net.now)) transition.now; take = value take.now; give = value give.now }) }
+    ensures { result ≡ checked (arc-checks (net-of text.now net.now) at.byte place.now transition.now take.now give.now) at.line (record { place = index_of (place-names (net-of text.now net.now)) place.now; transition = index_of (move-names (net-of text.now net.now)) transition.now; take = value take.now; give = value give.now }) }
 {
     let place_at = at.byte + 4;
     let p = known_place(net, text, at, place, place_at)?;

@@ -1,5 +1,3 @@
-// A part of a text.
-
 // A part of a text: the byte at which it starts, and how many bytes it has.
 #[derive(Clone, Copy)]
 pub struct Span {

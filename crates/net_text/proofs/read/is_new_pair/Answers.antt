@@ -1,4 +1,4 @@
-use Rattle.std.proofs.Common.{◌≡◌, ℕ, Bool, true, false, not, ◌&&◌, eqb, List, map, sym, refl, ◌∙◌}
+use Rattle.std.proofs.Common.{ℕ, Bool, not, ◌&&◌, eqb, List, map, sym, refl}
 use Rattle.std.proofs.lemmas.Bool.{eq-eqb, ne_eqb, and_from, and_left, and_right, not_from_true, not_from_false}
 use Rattle.formats.specs.ReadNet.{is-new-pair}
 use Rattle.net_text.specs.declared.net.Arc.{Arc}

@@ -1,4 +1,4 @@
-use Rattle.std.proofs.Common.{ℕ, ◌+◌, List, [], ◌++◌, length}
+use Rattle.std.proofs.Common.{◌+◌, ◌++◌, length}
 use Rattle.formats.specs.ReadNet.{move-line-checks, name-checks, letter-checks}
 use Rattle.net_text.specs.Nets.{net-of}
 use Rattle.texts.proofs.Checking.{stops, then-stops, passed_on}

@@ -1,5 +1,4 @@
-use Rattle.std.proofs.Common.{ℕ, ◌+◌, List, [], ◌++◌, length}
-use Rattle.formats.specs.Texts.{Check}
+use Rattle.std.proofs.Common.{◌+◌, [], ◌++◌, length}
 use Rattle.formats.specs.ReadNet.{place-line-checks, name-checks, count-checks}
 use Rattle.net_text.specs.Nets.{net-of}
 use Rattle.texts.proofs.Checking.{stops, then-stops, passed_on}

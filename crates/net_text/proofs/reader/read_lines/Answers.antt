@@ -1,11 +1,10 @@
-use Rattle.std.proofs.Common.{◌≡◌, ℕ, ◌-◌, take, drop, Err, sym, ap, ◌∙◌, subst, arith}
+use Rattle.std.proofs.Common.{Err, sym, ap, subst, arith}
 use Rattle.std.proofs.lemmas.Result.{err_from_is_err_and}
 use Rattle.formats.specs.NetClauses.{Shape, shape}
 use Rattle.formats.specs.NetClauses.Shape.{no_record}
 use Rattle.formats.specs.ReadNet.{checks, after, is_whole, net-reader}
 use Rattle.texts.specs.Lines.{shape_of}
-use Rattle.net_text.specs.Nets.{net-of}
-use Rattle.net_text.specs.Reading.{line_read, Stands}
+use Rattle.net_text.specs.Reading.{Stands}
 use Rattle.texts.proofs.Standing.{line-ends}
 use Rattle.texts.proofs.Going.{done, refused, next, err-weaker}
 use Rattle.net_text.proofs.Standing.{line-stands}

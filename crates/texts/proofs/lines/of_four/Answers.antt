@@ -1,5 +1,5 @@
-use Rattle.std.proofs.Common.{sym, refl}
-use Rattle.texts.proofs.Lining.{four-place, four-fixed, four-rule, four-none}
+use Rattle.std.proofs.Common.{sym}
+use Rattle.texts.proofs.Lining.{four-place}
 use Rattle.texts.proofs.lines.of_four.Goals as goal
 
 pub returns-then-same : goal.returns-then-same

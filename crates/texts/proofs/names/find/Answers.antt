@@ -1,4 +1,4 @@
-use Rattle.std.proofs.Common.{ap, ◌∙◌, arith}
+use Rattle.std.proofs.Common.{ap, ◌∙◌}
 use Rattle.texts.specs.Spans.{part_of}
 use Rattle.texts.proofs.Naming.{item-here, item_on, item-none}
 use Rattle.texts.proofs.names.find.Goals as goal
