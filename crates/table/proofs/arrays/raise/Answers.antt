@@ -6,8 +6,8 @@ use Rattle.table.proofs.arrays.raise.Goals as goal
 pub loop-p-init : goal.loop-p-init
 loop-p-init c = (changed-none (λ p. get_or c.args.tokens.now p 0 + get_or c.args.arcs.now (at p c.args.t) 0) c.args.tokens.now, c.told-tokens)
 
-pub overflow-add-tokens : goal.overflow-add-tokens
-overflow-add-tokens c =
+pub overflow_add-tokens : goal.overflow_add-tokens
+overflow_add-tokens c =
     let f = λ (p : ℕ). get_or c.args.tokens.now p 0 + get_or c.args.arcs.now (at p c.args.t) 0 in
     omega (arith, c.requires.2 c.loop-p.p c.loop-p-test.true, changed-at f c.loop-p.p c.args.tokens.now c.loop-p.tokens c.loop-p.invariant.0, c.from.ensures)
 

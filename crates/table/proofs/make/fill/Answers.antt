@@ -10,19 +10,19 @@ use Rattle.table.proofs.make.fill.Goals as goal
 pub loop-arc-init : goal.loop-arc-init
 loop-arc-init c = filled_none c.args.side c.args.arcs.now blank zeros (length-replicate {A = ℕ} cells 0)
 
-pub overflow-cast-table : goal.overflow-cast-table
-overflow-cast-table c =
+pub overflow_cast-table : goal.overflow_cast-table
+overflow_cast-table c =
     let a = get_or c.args.arcs.now c.loop-arc.arc-index no-arc in
     omega (arith, c.amount.ensures, amount-small c.args.side most-places most-places a (all-at (joins most-places most-moves) c.args.arcs.now c.loop-arc.arc-index no-arc c.requires c.loop-arc-test.true))
 
-pub overflow-mul-table : goal.overflow-mul-table
-overflow-mul-table c =
+pub overflow_mul-table : goal.overflow_mul-table
+overflow_mul-table c =
     let a = get_or c.args.arcs.now c.loop-arc.arc-index no-arc in
     let j = joined-parts most-places most-moves a (all-at (joins most-places most-moves) c.args.arcs.now c.loop-arc.arc-index no-arc c.requires c.loop-arc-test.true) in
     omega (arith, j.0)
 
-pub overflow-add-table : goal.overflow-add-table
-overflow-add-table c =
+pub overflow_add-table : goal.overflow_add-table
+overflow_add-table c =
     let a = get_or c.args.arcs.now c.loop-arc.arc-index no-arc in
     let j = joined-parts most-places most-moves a (all-at (joins most-places most-moves) c.args.arcs.now c.loop-arc.arc-index no-arc c.requires c.loop-arc-test.true) in
     omega (arith, j.0, j.1)

@@ -7,49 +7,35 @@ use Rattle.table.proofs.Making.{fits-parts, column-is, limit_is, tokens-are, hel
 use Rattle.table.proofs.make.make.Goals as goal
 
 pub fill-requires : goal.fill-requires
-fill-requires c = ap (all (joins most-places most-moves)) c.deref-2.ensures.value ∙ (fits-parts c.args.net.now (sym c.if-not-is-fit.ensures)).joining
+fill-requires c = ap (all (joins most-places most-moves)) c.deref-2.ensures.value ∙ (fits-parts c.args.net.now (sym c.if-not-is_fit.ensures)).joining
 
 pub fill-requires-2 : goal.fill-requires-2
-fill-requires-2 c = ap (all (joins most-places most-moves)) c.deref-3.ensures.value ∙ (fits-parts c.args.net.now (sym c.if-not-is-fit.ensures)).joining
+fill-requires-2 c = ap (all (joins most-places most-moves)) c.deref-3.ensures.value ∙ (fits-parts c.args.net.now (sym c.if-not-is_fit.ensures)).joining
 
-pub invariant-of-result : goal.invariant-of-result
-invariant-of-result c =
+pub invariant_of-result-clause-some_places : goal.invariant_of-result-clause-some_places
+invariant_of-result-clause-some_places c = omega (arith, c.len.ensures, (fits-parts c.args.net.now (sym c.if-not-is_fit.ensures)).some-places)
+
+pub invariant_of-result-clause-few_places : goal.invariant_of-result-clause-few_places
+invariant_of-result-clause-few_places c = omega (arith, c.len.ensures, (fits-parts c.args.net.now (sym c.if-not-is_fit.ensures)).few-places)
+
+pub invariant_of-result-clause-some_moves : goal.invariant_of-result-clause-some_moves
+invariant_of-result-clause-some_moves c = omega (arith, c.len-2.ensures, (fits-parts c.args.net.now (sym c.if-not-is_fit.ensures)).some-moves)
+
+pub invariant_of-result-clause-few_moves : goal.invariant_of-result-clause-few_moves
+invariant_of-result-clause-few_moves c = omega (arith, c.len-2.ensures, (fits-parts c.args.net.now (sym c.if-not-is_fit.ensures)).few-moves)
+
+pub invariant_of-result-clause-held : goal.invariant_of-result-clause-held
+invariant_of-result-clause-held c =
     let x = c.args.net.now in
-    let f = fits-parts x (sym c.if-not-is-fit.ensures) in
-    let ps = vec_items x.places in (
-      omega (arith, c.len.ensures, f.some-places),
-      (
-        omega (arith, c.len.ensures, f.few-places),
-        (
-          omega (arith, c.len-2.ensures, f.some-moves),
-          (
-            omega (arith, c.len-2.ensures, f.few-moves),
-            (
-              c.fill.ensures.small,
-              (
-                c.fill-2.ensures.small,
-                (
-                  c.limits-of.ensures.some,
-                  (
-                    c.limits-of.ensures.small,
-                    (
-                      held_by ps c.tokens-of.result c.limits-of.result f.filled (tokens-on c.tokens-of.result c.deref-5.result.now ps c.deref-5.ensures.value c.tokens-of.ensures)
-                          (limits-on c.limits-of.result c.deref-4.result.now ps c.deref-4.ensures.value c.limits-of.ensures.value) c.limits-of.ensures.some,
-                      tt,
-                    ),
-                  ),
-                ),
-              ),
-            ),
-          ),
-        ),
-      ),
-    )
+    let f = fits-parts x (sym c.if-not-is_fit.ensures) in
+    let ps = vec_items x.places in
+    held_by ps c.tokens_of.result c.limits_of.result f.filled (tokens-on c.tokens_of.result c.deref-5.result.now ps c.deref-5.ensures.value c.tokens_of.ensures)
+        (limits-on c.limits_of.result c.deref-4.result.now ps c.deref-4.ensures.value c.limits_of.ensures.value) c.limits_of.ensures.some
 
 pub returns : goal.returns
 returns c =
     let x = c.args.net.now in
-    let ok = sym c.if-not-is-fit.ensures in
+    let ok = sym c.if-not-is_fit.ensures in
     let f = fits-parts x ok in
     let ps = vec_items x.places in
     let n = c.len.result in
@@ -57,9 +43,9 @@ returns c =
     let xs = vec_items x.arcs in
     let count : n ≡ length ps = c.len.ensures ∙ x.places.ok.0 in
     let few : k ≤ most-moves = omega (arith, c.len-2.ensures, f.few-moves) in
-    let tokens = tokens-on c.tokens-of.result c.deref-5.result.now ps c.deref-5.ensures.value c.tokens-of.ensures in
-    let limits = limits-on c.limits-of.result c.deref-4.result.now ps c.deref-4.ensures.value c.limits-of.ensures.value in
-    let letters = letters-on c.letters-of.result c.deref.result.now (vec_items x.moves) c.deref.ensures.value c.letters-of.ensures in
+    let tokens = tokens-on c.tokens_of.result c.deref-5.result.now ps c.deref-5.ensures.value c.tokens_of.ensures in
+    let limits = limits-on c.limits_of.result c.deref-4.result.now ps c.deref-4.ensures.value c.limits_of.ensures.value in
+    let letters = letters-on c.letters_of.result c.deref.result.now (vec_items x.moves) c.deref.ensures.value c.letters_of.ensures in
     let takes = slots-on Take c.fill.result c.deref-2.result.now xs c.deref-2.ensures.value c.fill.ensures.value in
     let gives = slots-on Give c.fill-2.result c.deref-3.result.now xs c.deref-3.ensures.value c.fill-2.ensures.value in (
       ok,
@@ -67,6 +53,6 @@ returns c =
           (λ t. ap (λ (b : Bool). ltb t k && b) (letters t))
           (λ p t. column-is Take n k p t xs c.fill.result few f.joining takes)
           (λ p t. column-is Give n k p t xs c.fill-2.result few f.joining gives)
-          (λ p. limit_is n p ps c.limits-of.result count limits),
-      (λ i p. tokens-are n p ps c.tokens-of.result count tokens i),
+          (λ p. limit_is n p ps c.limits_of.result count limits),
+      (λ i p. tokens-are n p ps c.tokens_of.result count tokens i),
     )

@@ -9,42 +9,19 @@ use Rattle.table.proofs.fire.TablePlant.back.Goals as goal
 pub raise-requires : goal.raise-requires
 raise-requires c =
     let s = c.args.self.now in
-    let b = fits (net-of s) (tokens-of s) (λ p. (net-of s).take p c.args.t) c.args.t c.in-ok-may-back.ensures in
+    let b = fits (net-of s) (tokens-of s) (λ p. (net-of s).take p c.args.t) c.args.t c.in_ok-may_back.ensures in
     (s.few_places, omega (arith, b.0, s.few_moves), λ p l. omega (arith, room s.places s.moves p c.args.t _ _ _ l b.0 (b.1 p l), s.small_limits p))
 
-pub invariant-of-self : goal.invariant-of-self
-invariant-of-self c =
+pub invariant_of-self-clause-held : goal.invariant_of-self-clause-held
+invariant_of-self-clause-held c =
     let s = c.args.self.now in
-    let b = fits (net-of s) (tokens-of s) (λ p. (net-of s).take p c.args.t) c.args.t c.in-ok-may-back.ensures in (
-      s.some_places,
-      (
-        s.few_places,
-        (
-          s.some_moves,
-          (
-            s.few_moves,
-            (
-              s.small_takes,
-              (
-                s.small_gives,
-                (
-                  s.some_limits,
-                  (
-                    s.small_limits,
-                    (still-held s.places s.tokens c.raise.new.tokens s.takes s.limits c.args.t s.held (λ p l. room s.places s.moves p c.args.t _ _ _ l b.0 (b.1 p l)) c.raise.ensures, tt),
-                  ),
-                ),
-              ),
-            ),
-          ),
-        ),
-      ),
-    )
+    let b = fits (net-of s) (tokens-of s) (λ p. (net-of s).take p c.args.t) c.args.t c.in_ok-may_back.ensures in
+    still-held s.places s.tokens c.raise.new.tokens s.takes s.limits c.args.t s.held (λ p l. room s.places s.moves p c.args.t _ _ _ l b.0 (b.1 p l)) c.raise.ensures
 
 pub returns : goal.returns
 returns c =
     let s = c.args.self.now in
-    let e = c.in-ok-may-back.ensures in
+    let e = c.in_ok-may_back.ensures in
     let b = fits (net-of s) (tokens-of s) (λ p. (net-of s).take p c.args.t) c.args.t e in
     let after : (λ (p : ℕ). cond (ltb p s.places) (get_or c.raise.new.tokens p 0) 0) ≡ gone-back (net-of s) (tokens-of s) c.args.t = λ i p. raised s.places s.moves c.args.t s.tokens c.raise.new.tokens s.takes (back-answer (net-of s) (tokens-of s) c.args.t) e b.0 c.raise.ensures p i in
     record {

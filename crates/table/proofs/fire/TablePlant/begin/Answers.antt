@@ -9,13 +9,13 @@ use Rattle.table.proofs.fire.TablePlant.begin.Goals as goal
 pub lower-requires : goal.lower-requires
 lower-requires c =
     let s = c.args.self.now in
-    let b = begins (net-of s) (tokens-of s) c.args.t c.in-ok-may-begin.ensures in
+    let b = begins (net-of s) (tokens-of s) c.args.t c.in_ok-may_begin.ensures in
     (s.few_places, omega (arith, b.0, s.few_moves), λ p l. enough s.places s.moves p c.args.t _ _ l b.0 (b.1 p l))
 
 pub returns : goal.returns
 returns c =
     let s = c.args.self.now in
-    let e = c.in-ok-may-begin.ensures in
+    let e = c.in_ok-may_begin.ensures in
     let b = begins (net-of s) (tokens-of s) c.args.t e in
     let after : (λ (p : ℕ). cond (ltb p s.places) (get_or c.lower.new.tokens p 0) 0) ≡ begun (net-of s) (tokens-of s) c.args.t = λ i p. lowered s.places s.moves c.args.t s.tokens c.lower.new.tokens s.takes (begin-answer (net-of s) (tokens-of s) c.args.t) e b.0 c.lower.ensures p i in
     record {
