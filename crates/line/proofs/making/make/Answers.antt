@@ -5,47 +5,43 @@ use Rattle.model.specs.Sizes.{most-moves}
 use Rattle.net_text.specs.Nets.{limit-at, tokens-at, letter_at}
 use Rattle.line.proofs.Recorded.{some-made, small-made, held-made, tokens-made, net-made}
 use Rattle.line.proofs.making.make.Goals as goal
-use Rattle.line.proofs.making.make.Goals.{After-letters-of, at·returns}
+use Rattle.line.proofs.making.make.Goals.{After-letters_of, at-returns}
 
-module _ (c : After-letters-of) where
+module _ (c : After-letters_of) where
   counted : c.len.result ≡ length (vec_items c.args.net.now.places)
   counted = search rules
 
-  limits : (p : ℕ) → get_or c.limits-of.result p 0 ≡ limit-at (vec_items c.args.net.now.places) p
-  limits p = c.limits-of.ensures p ∙ ap (λ (ps : List Place). limit-at ps p) c.deref.ensures.value
+  limits : (p : ℕ) → get_or c.limits_of.result p 0 ≡ limit-at (vec_items c.args.net.now.places) p
+  limits p = c.limits_of.ensures p ∙ ap (λ (ps : List Place). limit-at ps p) c.deref.ensures.value
 
-  tokens : (p : ℕ) → get_or c.tokens-of.result p 0 ≡ tokens-at (vec_items c.args.net.now.places) p
-  tokens p = c.tokens-of.ensures p ∙ ap (λ (ps : List Place). tokens-at ps p) c.deref-2.ensures.value
+  tokens : (p : ℕ) → get_or c.tokens_of.result p 0 ≡ tokens-at (vec_items c.args.net.now.places) p
+  tokens p = c.tokens_of.ensures p ∙ ap (λ (ps : List Place). tokens-at ps p) c.deref-2.ensures.value
 
-  letters : (t : ℕ) → get_or c.letters-of.result t false ≡ letter_at (vec_items c.args.net.now.moves) t
-  letters t = c.letters-of.ensures t ∙ ap (λ (ms : List Move). letter_at ms t) c.deref-3.ensures.value
+  letters : (t : ℕ) → get_or c.letters_of.result t false ≡ letter_at (vec_items c.args.net.now.moves) t
+  letters t = c.letters_of.ensures t ∙ ap (λ (ms : List Move). letter_at ms t) c.deref-3.ensures.value
 
-pub invariant-of-result : goal.invariant-of-result
-invariant-of-result c =
-    let n = c.args.net.now in
-    let text = c.if-not-is-line.ensures in
-    let some : 1 ≤ c.len.result = omega (arith, counted c, text.some) in
-    let few : c.len.result < most-moves = omega (arith, counted c, text.moves, text.few) in (
-      some,
-      (
-        few,
-        (
-          (λ p h. some-made (vec_items n.places) c.limits-of.result c.tokens-of.result text.slots (limits c) (tokens c) p (omega (arith, counted c))),
-          (
-            small-made (vec_items n.places) c.limits-of.result c.tokens-of.result text.slots (limits c) (tokens c),
-            (held-made (vec_items n.places) c.limits-of.result c.tokens-of.result text.slots (limits c) (tokens c), tt),
-          ),
-        ),
-      ),
-    )
+pub invariant_of-result-clause-some : goal.invariant_of-result-clause-some
+invariant_of-result-clause-some c = omega (arith, counted c, c.if-not-is_line.ensures.some)
+
+pub invariant_of-result-clause-few : goal.invariant_of-result-clause-few
+invariant_of-result-clause-few c = omega (arith, counted c, c.if-not-is_line.ensures.moves, c.if-not-is_line.ensures.few)
+
+pub invariant_of-result-clause-some_limits : goal.invariant_of-result-clause-some_limits
+invariant_of-result-clause-some_limits c = λ p h. some-made (vec_items c.args.net.now.places) c.limits_of.result c.tokens_of.result c.if-not-is_line.ensures.slots (limits c) (tokens c) p (omega (arith, counted c))
+
+pub invariant_of-result-clause-small_limits : goal.invariant_of-result-clause-small_limits
+invariant_of-result-clause-small_limits c = small-made (vec_items c.args.net.now.places) c.limits_of.result c.tokens_of.result c.if-not-is_line.ensures.slots (limits c) (tokens c)
+
+pub invariant_of-result-clause-held : goal.invariant_of-result-clause-held
+invariant_of-result-clause-held c = held-made (vec_items c.args.net.now.places) c.limits_of.result c.tokens_of.result c.if-not-is_line.ensures.slots (limits c) (tokens c)
 
 pub returns : goal.returns
 returns c =
-    let d = (at·returns c).After-letters-of in
+    let d = (at-returns c).After-letters_of in
     let n = c.args.net.now in
-    let text = c.if-not-is-line.ensures in
+    let text = c.if-not-is_line.ensures in
     record {
       text = text;
       net = net-made c.len.result (length (vec_items n.places)) _ _ _ _ (counted d) (limits d) (letters d);
-      tokens = tokens-made (vec_items n.places) c.limits-of.result c.tokens-of.result text.slots (limits d) (tokens d) c.len.result (counted d);
+      tokens = tokens-made (vec_items n.places) c.limits_of.result c.tokens_of.result text.slots (limits d) (tokens d) c.len.result (counted d);
     }

@@ -4,4 +4,4 @@ use Rattle.line.proofs.fire.LinePlant.finish.Goals as goal
 pub raise-requires : goal.raise-requires
 raise-requires c =
     let s = c.args.self.now in
-    (c.if-t-self.true, finish-ok s.count s.limits s.tokens s.controllable c.args.t s.held _ c.if-t-self.true c.in-ok-may-finish.ensures)
+    (c.if-t-self.true, finish-ok s.count s.limits s.tokens s.controllable c.args.t s.held _ c.if-t-self.true c.in_ok-may_finish.ensures)
