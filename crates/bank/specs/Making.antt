@@ -7,7 +7,7 @@
 --   BankText              a net text that a bank is made from
 --   Made                  the net of the bank b is that of the moves' letters, and its tokens are those of the places
 --   Makes                 a bank that is made of x, if x is the text of one; else none
-use Rattle.std.specs.Prelude.{◌≡◌, ℕ, ◌%◌, ◌^◌, ◌<◌, ◌≤◌, Bool, List, length, get_or, Some, None, vec_items, Option}
+use Rattle.std.specs.Prelude.{◌≡◌, ℕ, ◌%◌, ◌^◌, ◌<◌, ◌≤◌, List, length, Some, None, vec_items, Option}
 use Rattle.formats.specs.declared.kind.Kind.TheVariants.{Bank as bank-kind}
 use Rattle.model.specs.Sizes.{most-places}
 use Rattle.net_text.specs.declared.net.Place.{Place}

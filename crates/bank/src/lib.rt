@@ -1,4 +1,6 @@
 // The machine bank: machines of four places each, with the tokens as the bits of one word.
+#![tactic(auto)]
+
 pub mod bank;
 mod bits;
 pub mod firing;

@@ -2,7 +2,7 @@
 ghost use Rattle.std.specs.Prelude.{◌≡◌};
 ghost use Rattle.bank.specs.Banks.{next_place, net-of, letter};
 ghost use Rattle.bank.specs.Ranging.{bank-ranges};
-ghost use Rattle.std.proofs.Common.{rules, arith};
+ghost use Rattle.std.proofs.Common.{arith};
 
 use crate::bank::Bank;
 use crate::bits::has_bit;
@@ -20,7 +20,7 @@ impl Net for Bank {
 
     ghost sound = { λ s. bank-ranges s.count (letter s.letters) s.some s.few };
 
-    ghost layered = { first_of (Prim.search rules, Prim.grind (arith, Self.row.coded.inj)) };
+    ghost layered = { λ _ _. Prim.omega arith };
 
     fn ground(&self) -> usize {
         self.count

@@ -1,4 +1,4 @@
-use lib.Bits.{and_mask}
+use Rattle.std.proofs.lemmas.Nat.{and_mask}
 use Rattle.bank.proofs.bits.bit_at.Goals as goal
 
 pub returns : goal.returns

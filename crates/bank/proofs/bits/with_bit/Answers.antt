@@ -1,5 +1,5 @@
 use Rattle.std.proofs.Common.{◌^◌}
-use lib.Pow.{pow-lt}
+use Rattle.std.proofs.Math.Pow.{pow-lt}
 use Rattle.std.proofs.lemmas.Nat.{one_shl, or_lt}
 use Rattle.bank.specs.Words.{set-bit}
 use Rattle.bank.proofs.bits.with_bit.Goals as goal

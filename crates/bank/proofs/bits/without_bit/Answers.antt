@@ -1,6 +1,5 @@
 use Rattle.std.proofs.Common.{◌-◌, ◌^◌, ◌<◌, arith}
-use lib.Bits.{and_le_l}
-use Rattle.std.proofs.lemmas.Nat.{one_shl}
+use Rattle.std.proofs.lemmas.Nat.{one_shl, and_le_l}
 use Rattle.bank.specs.Words.{clear-bit}
 use Rattle.bank.proofs.bits.without_bit.Goals as goal
 

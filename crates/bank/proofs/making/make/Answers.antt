@@ -10,11 +10,11 @@ returns c =
     let x = c.args.net.now in
     let ps = vec_items x.places in
     let ms = vec_items x.moves in
-    let tokens = c.in-ok-tokens.tokens in
-    let letters = c.read-letters-letters.result in
-    let shaped : Shaped x = c.if-not-is-shaped.ensures in
-    let read : TokensRead ps (Some tokens) = subst (λ (l : List Place). TokensRead l (Some tokens)) c.deref.ensures.value c.in-ok-tokens.ensures in
-    let lettered : LettersRead ms letters = subst (λ (l : List Move). LettersRead l letters) c.deref-2.ensures.value c.read-letters-letters.ensures in
+    let tokens = c.in_ok-tokens.tokens in
+    let letters = c.read_letters-letters.result in
+    let shaped : Shaped x = c.if-not-is_shaped.ensures in
+    let read : TokensRead ps (Some tokens) = subst (λ (l : List Place). TokensRead l (Some tokens)) c.deref.ensures.value c.in_ok-tokens.ensures in
+    let lettered : LettersRead ms letters = subst (λ (l : List Move). LettersRead l letters) c.deref-2.ensures.value c.read_letters-letters.ensures in
     let counted : c.len.result ≡ length ps = search rules in (
       record { shaped = shaped; single = read.0 },
       record {

@@ -7,10 +7,10 @@ pub returns-then-on : goal.returns-then-on
 returns-then-on c =
     let w = c.args.w in
     let p = c.args.p in
-    let r = c.with-bit.result in
-    let bits = c.with-bit.ensures.bits in
+    let r = c.with_bit.result in
+    let bits = c.with_bit.ensures.bits in
     record {
-      inside = c.with-bit.ensures.inside (p + 1) (omega arith) (next-inside-word w p c.requires.1);
+      inside = c.with_bit.ensures.inside (p + 1) (omega arith) (next-inside-word w p c.requires.1);
       here = set_here w r p bits ∙ sym (cond-true c.args.on 1 0 c.if-on.true);
       others = set_below w r p bits;
     }

@@ -8,12 +8,12 @@ pub returns : goal.returns
 returns c =
     let s = c.args.self.now in
     let t = c.args.t in
-    let v = c.with-bit.result in
-    let e = c.next-place.ensures in
+    let v = c.with_bit.result in
+    let e = c.next_place.ensures in
     record {
       after = over-bits s.count s.tokens (letter s.letters) t (next_place t) (next-inside s.count t s.whole) v c.requires
-          (subst (λ (q : ℕ). (p : ℕ) → bit v p ≡ cond (eqb p q) 1 (bit s.tokens p)) e c.with-bit.ensures.bits);
-      inside = c.with-bit.ensures.inside s.count
+          (subst (λ (q : ℕ). (p : ℕ) → bit v p ≡ cond (eqb p q) 1 (bit s.tokens p)) e c.with_bit.ensures.bits);
+      inside = c.with_bit.ensures.inside s.count
           (rw e (over-place-in s.count s.tokens (letter s.letters) t (next_place t) (next-inside s.count t s.whole) c.requires))
           s.inside;
     }

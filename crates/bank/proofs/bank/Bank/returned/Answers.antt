@@ -7,7 +7,7 @@ returns c =
     let s = c.args.self.now in
     let t = c.args.t in
     record {
-      after = over-bits s.count s.tokens (letter s.letters) t t (λ h. h) c.with-bit.result c.requires c.with-bit.ensures.bits;
-      inside = c.with-bit.ensures.inside s.count
+      after = over-bits s.count s.tokens (letter s.letters) t t (λ h. h) c.with_bit.result c.requires c.with_bit.ensures.bits;
+      inside = c.with_bit.ensures.inside s.count
           (over-place-in s.count s.tokens (letter s.letters) t t (λ h. h) c.requires) s.inside;
     }

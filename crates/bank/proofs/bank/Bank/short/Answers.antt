@@ -4,14 +4,14 @@ use Rattle.bank.specs.Banks.{bit, letter}
 use Rattle.bank.proofs.Calls.{short-here, short-nowhere}
 use Rattle.bank.proofs.bank.Bank.short.Goals as goal
 
-pub returns-then-has-bit : goal.returns-then-has-bit
-returns-then-has-bit c =
+pub returns-then-has_bit : goal.returns-then-has_bit
+returns-then-has_bit c =
     let s = c.args.self.now in
     let t = c.args.t in
-    sym (short-nowhere s.count s.tokens (letter s.letters) t c.requires (eqb-true (bit s.tokens t) 1 (sym c.has-bit.ensures ∙ c.if-has-bit.true)))
+    sym (short-nowhere s.count s.tokens (letter s.letters) t c.requires (eqb-true (bit s.tokens t) 1 (sym c.has_bit.ensures ∙ c.if-has_bit.true)))
 
-pub returns-else-has-bit : goal.returns-else-has-bit
-returns-else-has-bit c =
+pub returns-else-has_bit : goal.returns-else-has_bit
+returns-else-has_bit c =
     let s = c.args.self.now in
     let t = c.args.t in
-    sym (short-here s.count s.tokens (letter s.letters) t c.requires (eqb-false (bit s.tokens t) 1 (sym c.has-bit.ensures ∙ c.if-has-bit.false)))
+    sym (short-here s.count s.tokens (letter s.letters) t c.requires (eqb-false (bit s.tokens t) 1 (sym c.has_bit.ensures ∙ c.if-has_bit.false)))

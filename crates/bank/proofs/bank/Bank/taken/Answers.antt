@@ -7,6 +7,6 @@ pub returns : goal.returns
 returns c =
     let s = c.args.self.now in
     record {
-      after = begun-bits s.count s.tokens (letter s.letters) c.args.t c.without-bit.result c.requires c.without-bit.ensures.bits;
-      inside = omega (arith, s.inside, c.without-bit.ensures.inside);
+      after = begun-bits s.count s.tokens (letter s.letters) c.args.t c.without_bit.result c.requires c.without_bit.ensures.bits;
+      inside = omega (arith, s.inside, c.without_bit.ensures.inside);
     }
