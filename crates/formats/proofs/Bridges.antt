@@ -1,13 +1,12 @@
 -- For code that goes through a text by indexes: what the reader's lists are at an index.
-use Rattle.std.proofs.Common.{◌≡◌, ℕ, zero, suc, ◌+◌, ◌-◌, ◌<◌, ◌≤◌, Bool, true, false, cond, not, ◌||◌, eqb, List, [], ◌∷◌, ◌++◌, length, get_or, take, drop, Some, None, Option, Result, sym, refl, ap, ◌∙◌, subst, ap₂, arith}
+use Rattle.std.proofs.Common.{◌≡◌, ℕ, suc, ◌+◌, ◌-◌, ◌<◌, ◌≤◌, Bool, true, false, cond, not, eqb, List, [], ◌∷◌, length, get_or, take, drop, Some, None, Option, sym, refl, ap, ◌∙◌, ap₂, arith}
 use Rattle.std.specs.List.{prefix_len}
 use Rattle.std.proofs.lemmas.List.{drop-drop, drop_more, drop_all, length-drop, take_all}
 use Rattle.std.proofs.lemmas.Bool.{cond-true, cond-false, eqb-true, not_from_true, not_from_false}
 use Rattle.model.specs.declared.refusal.Refusal.TheVariants.{Byte}
-use Rattle.formats.specs.declared.fault.TextFault.{TextFault}
 use Rattle.formats.specs.Words.{is-not, onto, fields, lines, last, is-allowed}
 use Rattle.formats.specs.Texts.{fault, bad-byte, Reader, first-failed, ended, unless, read-lines}
-use Rattle.formats.specs.Sums.{Piece, piece, is-sign, put, pieces}
+use Rattle.formats.specs.Sums.{piece, is-sign, put, pieces}
 
 -- ---- the last byte
 pub last-is : (bs : List ℕ) → 0 < length bs → last bs ≡ get_or bs (length bs - 1) 0

@@ -1,19 +1,17 @@
 -- The reader's checks and the clauses say the same, row by row.
-use Rattle.std.proofs.Common.{◌≡◌, ℕ, zero, suc, ◌+◌, ◌^◌, ◌<◌, ◌≤◌, Bool, true, false, cond, not, ◌&&◌, ◌||◌, eqb, ltb, leb, ◌⊎◌, List, [], ◌∷◌, ◌++◌, length, Some, None, codes, Decides, Option, sym, refl, ap, ◌∙◌, subst, inl, inr, arith}
+use Rattle.std.proofs.Common.{◌≡◌, ℕ, ◌+◌, ◌^◌, ◌≤◌, false, not, ◌&&◌, ◌||◌, eqb, ◌⊎◌, List, length, Some, None, codes, Decides, Option, refl, ap, inl, inr, arith}
 use Rattle.std.specs.Str.{bytes_eq}
 use Rattle.std.proofs.lemmas.Slice.Eq.{bytes_eq-Decides}
-use Rattle.std.proofs.lemmas.Bool.{both_ways, false≢true, cond-true, cond-false}
+use Rattle.std.proofs.lemmas.Bool.{false≢true}
 use Rattle.formats.specs.declared.kind.Kind.{Kind}
 use Rattle.formats.specs.declared.kind.Kind.TheVariants.{Net, Bank, Line}
-use Rattle.model.specs.declared.refusal.Refusal.{Refusal}
-use Rattle.formats.specs.Words.{none, is_name, is-numeral, value, all, index_of}
+use Rattle.formats.specs.Words.{none, value, index_of}
 use Rattle.formats.specs.NetText.{Place, Move, Arc, NetText, place-names, move-names, names, kind-word, Shaped, Complete}
-use Rattle.formats.specs.Texts.{Check, check, Clause, clause}
 use Rattle.formats.specs.NetClauses.{Shape, NewPair, place-clauses, move-clauses, arc-clauses, clauses}
 use Rattle.formats.specs.NetClauses.Shape.{a-plant, a-place, a_move, an-arc, no_record}
 use Rattle.formats.specs.ReadNet.{checks, place-checks, move-checks, arc-checks, is-kind, is-net, is-new-pair, is-shaped, is_whole}
 use Rattle.formats.proofs.Ordered.{Agree}
-use Rattle.formats.proofs.Tests.{d-same, d-and, d-or, d-not, d-leb, d-ltb, d-eqb, d-all, d-no, d-fails, d-name, d-new, d-known, d-numeral, d-none}
+use Rattle.formats.proofs.Tests.{d-same, d-and, d-or, d-not, d-leb, d-ltb, d-eqb, d-all, d-no, d-name, d-new, d-known, d-numeral, d-none}
 
 -- ---- the tests of the tables
 kind-from : (f : List ℕ) → (f ≡ codes "net") ⊎ ((f ≡ codes "bank") ⊎ (f ≡ codes "line")) → (k : Kind) × (f ≡ kind-word k)

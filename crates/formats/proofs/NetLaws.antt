@@ -1,18 +1,13 @@
 -- The text that is written for a right net is read back, line by line; and the laws of the net text.
-use Rattle.std.proofs.Common.{◌≡◌, ℕ, zero, suc, ◌+◌, ◌^◌, ◌<◌, ◌≤◌, Bool, true, false, cond, ◌&&◌, leb, ◌⊎◌, List, [], ◌∷◌, ◌++◌, map, length, get_or, Some, None, codes, decimal, Decides, Option, Result, sym, refl, ap, ◌∙◌, subst, ap₂, subst₂, inl, inr, append_assoc, append-nil, arith, length-append}
+use Rattle.std.proofs.Common.{◌≡◌, ℕ, ◌^◌, ◌<◌, Bool, true, false, ◌⊎◌, List, [], ◌∷◌, ◌++◌, map, length, get_or, codes, decimal, Option, sym, refl, ap, ap₂, subst₂, inl, inr, arith}
 use lib.ListN.{length-map}
 use Rattle.std.specs.List.{AllByRecursion as All}
-use Rattle.std.specs.Str.{all_ascii_digits, bytes_eq}
-use Rattle.std.proofs.lemmas.List.{map_push, length_push}
-use Rattle.std.proofs.ByRecursion.{All-push, All-get_or, All-weaker}
-use Rattle.std.proofs.lemmas.Str.Parse.{tells_all_ascii_digits}
-use Rattle.std.proofs.lemmas.Fmt.{digits_decimal}
-use Rattle.std.proofs.lemmas.Slice.Eq.{bytes_eq-Decides}
+use Rattle.std.specs.Str.{bytes_eq}
+use Rattle.std.proofs.ByRecursion.{All-get_or}
 use Rattle.formats.specs.declared.kind.Kind.{Kind}
 use Rattle.formats.specs.declared.kind.Kind.TheVariants.{Net, Bank, Line}
-use Rattle.formats.specs.declared.fault.TextFault.{TextFault}
-use Rattle.formats.specs.Words.{Shown, IsName, Numeral, Known, Apart, value, index_of}
-use Rattle.formats.specs.NetText.{Place, Move, Arc, NetText, net, place-names, move-names, names, letter-of, plant-row, place-row, move_row, arc-row, rows, Right}
+use Rattle.formats.specs.Words.{Shown, IsName, Numeral, Known, value, index_of}
+use Rattle.formats.specs.NetText.{Place, Move, Arc, NetText, net, place-names, move-names, letter-of, plant-row, place-row, move_row, arc-row, Right}
 use Rattle.formats.specs.NetClauses.{shape, net-meaning}
 use Rattle.formats.specs.ReadNet.{begun, add-place, add-move, add-arc, net-reader}
 use Rattle.formats.proofs.Tests.{value_of, name-index}

@@ -1,7 +1,7 @@
 -- Some texts, and what the reader answers.
-use Rattle.std.proofs.Common.{◌≡◌, ℕ, Bool, true, false, List, [], ◌∷◌, ◌++◌, Ok, Err, codes, Result, refl}
+use Rattle.std.proofs.Common.{◌≡◌, ℕ, true, false, List, [], ◌∷◌, Ok, Err, codes, refl}
 use Rattle.formats.specs.declared.kind.Kind.TheVariants.{Net}
-use Rattle.model.specs.declared.refusal.Refusal.TheVariants.{Form, Byte, NoRecord, Field, NameTaken, NameUnknown, TooMany, ArcNotAllowed, NotOfKind}
+use Rattle.model.specs.declared.refusal.Refusal.TheVariants.{Form, NoRecord, Field, NameTaken, NameUnknown, ArcNotAllowed, NotOfKind}
 use Rattle.formats.specs.Texts.{fault, read-text}
 use Rattle.formats.specs.ReadNet.{read-net}
 

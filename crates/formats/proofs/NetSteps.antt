@@ -1,13 +1,12 @@
 -- A line that keeps the clauses: the text with it is right, and has that line as its last row.
-use Rattle.std.proofs.Common.{◌≡◌, ℕ, zero, suc, ◌+◌, ◌^◌, ◌<◌, ◌≤◌, Bool, true, false, cond, ◌⊎◌, List, [], ◌∷◌, ◌++◌, map, length, get_or, Some, None, codes, decimal, Option, sym, refl, ap, ◌∙◌, subst, ap₂, subst₂, inl, inr, arith}
+use Rattle.std.proofs.Common.{◌≡◌, ℕ, ◌<◌, Bool, true, false, cond, ◌⊎◌, List, [], ◌∷◌, ◌++◌, length, get_or, Some, None, codes, decimal, Option, sym, refl, ap, ◌∙◌, subst, ap₂, subst₂, inl, inr, arith}
 use lib.ListN.{length-map}
 use Rattle.std.specs.Str.{bytes_eq}
 use Rattle.std.proofs.lemmas.Slice.Eq.{bytes_eq-Decides}
-use Rattle.std.proofs.lemmas.Bool.{ltb-true}
 use Rattle.formats.specs.declared.kind.Kind.{Kind}
 use Rattle.formats.specs.declared.kind.Kind.TheVariants.{Net, Bank, Line}
-use Rattle.formats.specs.Words.{IsName, Numeral, Known, value, index_of}
-use Rattle.formats.specs.NetText.{Place, Move, Arc, NetText, net, place-names, move-names, names, kind-word, letter-of, plant-row, place-row, move_row, arc-row, rows, Filled, Right}
+use Rattle.formats.specs.Words.{value, index_of}
+use Rattle.formats.specs.NetText.{Place, Move, Arc, NetText, net, place-names, move-names, kind-word, letter-of, place-row, move_row, arc-row, rows, Filled, Right}
 use Rattle.formats.specs.Texts.{Keeps, RightSoFar}
 use Rattle.formats.specs.NetClauses.{Shape, shape, place-clauses, move-clauses, arc-clauses, clauses, net-meaning}
 use Rattle.formats.specs.NetClauses.Shape.{a-plant, a-place, a_move, an-arc, no_record}

@@ -1,5 +1,5 @@
 -- The laws of the rules text.
-use Rattle.std.proofs.Common.{◌≡◌, ℕ, zero, suc, ◌+◌, ◌^◌, ◌<◌, ◌≤◌, Bool, true, false, cond, ◌&&◌, eqb, ltb, leb, ◌⊎◌, List, [], ◌∷◌, ◌++◌, map, length, ℤ, pos, negsuc, neg_ℤ, nat_abs, Some, None, codes, decimal, Decides, Option, sym, refl, ap, ◌∙◌, subst, ap₂, inl, inr, append_assoc, append-nil, arith}
+use Rattle.std.proofs.Common.{◌≡◌, ℕ, zero, suc, ◌+◌, ◌^◌, ◌<◌, ◌≤◌, Bool, true, false, cond, ◌&&◌, eqb, leb, ◌⊎◌, List, [], ◌∷◌, ◌++◌, map, length, ℤ, pos, negsuc, neg_ℤ, nat_abs, Some, None, codes, decimal, Decides, Option, sym, refl, ap, ◌∙◌, subst, ap₂, inl, inr, arith}
 use Rattle.std.specs.Fmt.{signed_decimal}
 use Rattle.std.specs.List.{AllByRecursion as All}
 use Rattle.std.specs.Str.{bytes_eq, all_ascii_digits}
@@ -8,15 +8,15 @@ use Rattle.std.proofs.ByRecursion.{All-push, All-append}
 use Rattle.std.proofs.lemmas.Slice.Eq.{bytes_eq-Decides}
 use Rattle.std.proofs.lemmas.Fmt.{digits_decimal, decimal_nonempty}
 use Rattle.std.proofs.lemmas.Str.Parse.{tells_all_ascii_digits}
-use Rattle.std.proofs.lemmas.Bool.{cond-true, cond-false, eqb-true, eq-eqb, ne_eqb, false≢true}
-use Rattle.formats.specs.Words.{Shown, IsName, Numeral, New, Apart, is_name, is-new, is-numeral, value}
+use Rattle.std.proofs.lemmas.Bool.{cond-false, eqb-true, ne_eqb, false≢true}
+use Rattle.formats.specs.Words.{Shown, IsName, Apart, is-numeral, value}
 use Rattle.formats.specs.Texts.{Check, Clause, Keeps, RightSoFar, Exact, Refusals, EachText}
-use Rattle.formats.specs.Sums.{Part, ProperSum, sum-written, terms, lead-length, sum_of, sum-checks, sum-clauses}
+use Rattle.formats.specs.Sums.{Part, sum-written, terms, lead-length, sum_of, sum-checks, sum-clauses}
 use Rattle.formats.specs.NetText.{NetText, names, place-names, move-names, Right}
 use Rattle.formats.specs.RulesText.{RuleLine, RulesText, all_lines, rule-names, line_row, rule-rows, RightLine, RightRules, Bound, RuleShape, rule-shape, line-clauses, clauses-of, rules-meaning, is_bound, bound_of, line_of, line-checks, checks-of, opened, add-rule, after-rule, rules-reader}
 use Rattle.formats.specs.RulesText.RuleShape.{a-fixed, a-rule, neither}
 use Rattle.formats.specs.Laws.{RulesExact, RulesRefusals, RulesDecided}
-use Rattle.formats.proofs.Tests.{own, value_of, d-same, d-and, d-leb, d-ltb, d-no, d-name, d-new, d-numeral, numeral-is}
+use Rattle.formats.proofs.Tests.{own, value_of, d-and, d-leb, d-ltb, d-no, d-name, d-new, d-numeral, numeral-is}
 use Rattle.formats.proofs.Bytes.{Clean, name-shown, decimal-shown, word-shown}
 use Rattle.formats.proofs.Ordered.{Agree, agree-append}
 use Rattle.formats.proofs.NetAdding.{all_pop, all_split, apart-push, apart-pop, apart-split}

@@ -1,5 +1,5 @@
 -- Some rules texts over the places A, Z, B and the moves in, out, ret, and what the reader answers.
-use Rattle.std.proofs.Common.{◌≡◌, ℕ, Bool, true, false, List, [], ◌∷◌, ◌++◌, ℤ, pos, negsuc, Some, None, Ok, Err, codes, Result, refl}
+use Rattle.std.proofs.Common.{◌≡◌, ℕ, Bool, true, false, List, [], ◌∷◌, ◌++◌, pos, negsuc, Some, None, Ok, Err, codes, Result, refl}
 use Rattle.model.specs.declared.refusal.Refusal.{Refusal}
 use Rattle.model.specs.declared.refusal.Refusal.TheVariants.{NoRecord, Field, NameTaken, NameUnknown, Sum}
 use Rattle.formats.specs.declared.fault.TextFault.{TextFault}

@@ -1,13 +1,13 @@
 -- The laws of sums.
-use Rattle.std.proofs.Common.{◌≡◌, ℕ, zero, suc, ◌+◌, ◌<◌, ◌≤◌, Bool, true, false, cond, ◌||◌, eqb, ◌⊎◌, List, [], ◌∷◌, ◌++◌, map, length, get_or, ℤ, pos, ◌+ℤ◌, nat_abs, Some, None, Ok, Err, Option, sym, refl, ap, ◌∙◌, subst, ap₂, inl, inr, append_assoc, append-nil, arith}
+use Rattle.std.proofs.Common.{◌≡◌, ℕ, ◌+◌, ◌<◌, ◌≤◌, Bool, true, false, cond, eqb, List, [], ◌∷◌, ◌++◌, map, length, get_or, ℤ, pos, ◌+ℤ◌, nat_abs, Some, None, Ok, Err, Option, sym, refl, ap, ◌∙◌, subst, ap₂, append_assoc, append-nil, arith}
 use borrow.Author.Differences.{ints}
 use Rattle.std.specs.List.{AllByRecursion as All}
 use Rattle.std.proofs.ByRecursion.{All-get_or, All-append}
-use Rattle.std.proofs.lemmas.Bool.{cond-true, cond-false, or_parts, eqb-true}
+use Rattle.std.proofs.lemmas.Bool.{cond-false, or_parts, eqb-true}
 use Rattle.model.specs.declared.refusal.Refusal.{Refusal}
 use Rattle.formats.specs.Words.{IsName, Apart, Shown}
 use Rattle.formats.specs.Texts.{Check, first-failed, Clause, Keeps, Breaks}
-use Rattle.formats.specs.Sums.{Part, amount, weight, NumberFits, Running, ProperSum, part_bytes, sign_of, lead, more-written, sum-written, Piece, piece, is-sign, pieces, terms, lead-length, part_of, piece-checks, piece-clauses, sum_of, sum-checks, sum-clauses, unless-sum, read-sum, SumExact, SumRefusals, WeightPush, WeightsIn}
+use Rattle.formats.specs.Sums.{Part, amount, weight, Running, ProperSum, part_bytes, sign_of, lead, more-written, sum-written, Piece, piece, is-sign, pieces, terms, lead-length, part_of, piece-checks, piece-clauses, sum_of, sum-checks, sum-clauses, unless-sum, read-sum, SumExact, SumRefusals, WeightPush, WeightsIn}
 use Rattle.formats.proofs.Ordered.{Agree, agree-append, keeps, passes, breaks, fails}
 use Rattle.formats.proofs.SumPieces.{tails, glued, pieces-some, glued-pieces, Unsigned, pieces-front, pieces-tails}
 use Rattle.formats.proofs.SumParts.{piece-agree, piece-in, piece-out, part-unsigned, part-shown, part-first}

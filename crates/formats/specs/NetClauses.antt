@@ -1,7 +1,7 @@
 -- What is asked of each line of a net text, in order, with the refusal and the byte if it is not so.
 --   Shape            a line by its word and its count of fields, with its other fields as they stand
 --   clauses s at l   what is asked of the line l that starts at byte `at` after the text s (None before the first line), in order
-use Rattle.std.specs.Prelude.{◌≡◌, ℕ, ◌+◌, ◌<◌, ◌≤◌, cond, ◌⊎◌, List, [], ◌∷◌, ◌++◌, length, get_or, Some, None, codes, Option}
+use Rattle.std.specs.Prelude.{◌≡◌, ℕ, ◌+◌, ◌<◌, ◌≤◌, cond, ◌⊎◌, List, [], ◌∷◌, length, Some, None, codes, Option}
 use Rattle.std.specs.List.{AllByRecursion as All}
 use Rattle.std.specs.Str.{bytes_eq}
 use Rattle.model.specs.Sizes.{most-places, most-moves, count-digits, arc-digits}

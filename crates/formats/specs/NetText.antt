@@ -6,7 +6,7 @@
 --   rows x           the lines of the text, each as its fields: `plant KIND`, the places, the moves, the arcs
 --   Right x          x is right as far as it goes: every line fits those before it
 --   Complete x       x has what the end of a net text asks for
-use Rattle.std.specs.Prelude.{◌≡◌, ℕ, ◌+◌, ◌%◌, ◌^◌, ◌<◌, ◌≤◌, Bool, true, false, cond, ◌⊎◌, List, [], ◌∷◌, ◌++◌, map, length, codes, decimal, slice_index_or}
+use Rattle.std.specs.Prelude.{◌≡◌, ℕ, ◌+◌, ◌%◌, ◌^◌, ◌<◌, ◌≤◌, Bool, true, false, ◌⊎◌, List, [], ◌∷◌, ◌++◌, map, length, codes, decimal, slice_index_or}
 use Rattle.std.specs.List.{AllByRecursion as All}
 use Rattle.model.specs.Sizes.{most-places, most-moves, count-digits, arc-digits}
 use Rattle.formats.specs.declared.kind.Kind.{Kind}

@@ -2,7 +2,7 @@
 --   checks s at l    the checks of the line l that starts at byte `at` after the text s (None before the first line), in order
 --   after s l        the text with that line, if it passes
 --   read-net         reads a net text
-use Rattle.std.specs.Prelude.{ℕ, zero, suc, ◌+◌, ◌%◌, Bool, true, false, cond, not, ◌&&◌, ◌||◌, List, [], ◌∷◌, ◌++◌, length, Some, None, codes, Option, Result, ◌==◌, nat_eq, nat_le, nat_lt}
+use Rattle.std.specs.Prelude.{ℕ, ◌+◌, ◌%◌, Bool, true, false, cond, not, ◌&&◌, ◌||◌, List, [], ◌∷◌, ◌++◌, length, Some, None, codes, Option, Result, ◌==◌, nat_eq, nat_le, nat_lt}
 use Rattle.std.specs.Str.{bytes_eq}
 use Rattle.model.specs.Sizes.{most-places, most-moves, count-digits, arc-digits}
 use Rattle.formats.specs.declared.kind.Kind.{Kind}

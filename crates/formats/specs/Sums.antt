@@ -8,7 +8,7 @@
 --   digits, body, title, left    of a piece: the digits at its start; what follows them and a star; the name there, up to 12 letters and
 --                    digits; what is left after it
 --   read-sum         the sum of a field that starts at a byte, or the refusal and its byte
-use Rattle.std.specs.Prelude.{◌≡◌, ℕ, zero, suc, ◌+◌, ◌^◌, ◌<◌, ◌≤◌, min, Bool, true, false, cond, not, ◌&&◌, ◌||◌, ◌⊎◌, List, [], ◌∷◌, ◌++◌, map, length, take, drop, ℤ, pos, ◌+ℤ◌, neg_ℤ, Some, None, Ok, Err, decimal, Option, Result, ◌==◌, nat_le, slice_index, slice_index_or, unsigned_abs}
+use Rattle.std.specs.Prelude.{◌≡◌, ℕ, ◌+◌, ◌^◌, ◌<◌, ◌≤◌, min, Bool, true, false, cond, ◌&&◌, ◌||◌, ◌⊎◌, List, [], ◌∷◌, ◌++◌, map, length, take, drop, ℤ, pos, ◌+ℤ◌, neg_ℤ, Some, None, Ok, Err, decimal, Option, Result, ◌==◌, nat_le, slice_index, slice_index_or, unsigned_abs}
 use Rattle.std.specs.List.{prefix_len, AllByRecursion as All}
 use Rattle.model.specs.Sizes.{factor-digits, most-weight}
 use Rattle.model.specs.declared.refusal.Refusal.{Refusal}

@@ -10,7 +10,7 @@
 --   read-text        the checks of all the bytes, then line by line, then the end
 --   written          the bytes that are written for a value: its rows, fields parted by a tab, each line ended by a newline
 --   Refused bs f     bs is refused as f says: the first thing that is wrong with it, in the order of checks
-use Rattle.std.specs.Prelude.{◌≡◌, ℕ, zero, suc, ◌+◌, ◌<◌, ◌≤◌, Bool, true, false, cond, not, ◌&&◌, ◌||◌, ◌⊎◌, List, [], ◌∷◌, ◌++◌, map, length, Some, None, Ok, Err, Option, Result, ◌==◌, ◌≢◌, nat_le, nat_lt}
+use Rattle.std.specs.Prelude.{◌≡◌, ℕ, ◌+◌, ◌<◌, ◌≤◌, Bool, cond, ◌&&◌, ◌⊎◌, List, [], ◌∷◌, ◌++◌, map, length, Some, None, Ok, Err, Option, Result, ◌==◌, ◌≢◌, nat_le, nat_lt}
 use Rattle.std.specs.List.{AllByRecursion as All}
 use Rattle.model.specs.Sizes.{most_bytes}
 use Rattle.model.specs.declared.refusal.Refusal.{Refusal}

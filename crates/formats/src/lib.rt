@@ -1,3 +1,5 @@
+#![tactic(auto)]
+
 ghost use Rattle.formats.specs.Laws.{NetExact, NetRefusals, NetDecided, RulesExact, RulesRefusals, RulesDecided};
 ghost use Rattle.formats.specs.Sums.{SumExact, SumRefusals, WeightPush, WeightsIn};
 

@@ -3,7 +3,7 @@ use Rattle.std.proofs.Common.{◌≡◌, ℕ, cond, not, Ok, sym, refl, ap, ◌�
 use Rattle.model.specs.declared.refusal.Refusal.TheVariants.{Controllable}
 use Rattle.model.specs.Net.{Net}
 use Rattle.model.specs.Plant.{accepted, fault-of, refuse-unless, ◌else-by◌, known, begin-answer, begun, finish-answer, finished, back-answer, gone-back}
-use Rattle.model.specs.Layer.{row_count, pile-free, rows-begun, rows-finished, rows-gone-back, pile-begun, pile-finished}
+use Rattle.model.specs.Layer.{row_count, pile-free, rows-begun, rows-finished, rows-gone-back, pile-begun}
 use Rattle.model.specs.Ledger.{Ledger, Call, grant, commit, cancel, report, net-under, free-under, room-answer, grant-checks, is_open, plus_one, minus_one, answer, next, done}
 use Rattle.model.specs.Laws.{Moved, CallsFire}
 use Rattle.model.proofs.Checks.{else-ok, known-says}

@@ -11,33 +11,33 @@ use Rattle.model.proofs.Sums.{sum_one, signed-sum-add}
 use Rattle.model.proofs.Steady.{held-open, Stands, Steady}
 
 -- ---- one more, one less
-plus-same : (g : ℕ → ℕ) (t : ℕ) → plus_one g t t ≡ g t + 1
+pub plus-same : (g : ℕ → ℕ) (t : ℕ) → plus_one g t t ≡ g t + 1
 plus-same g t = ap (λ b. cond b (g t + 1) (g t)) (eq-eqb t t refl)
 
-plus-other : (g : ℕ → ℕ) (t u : ℕ) → (u ≡ t → ⊥) → plus_one g t u ≡ g u
+pub plus-other : (g : ℕ → ℕ) (t u : ℕ) → (u ≡ t → ⊥) → plus_one g t u ≡ g u
 plus-other g t u h = ap (λ b. cond b (g u + 1) (g u)) (ne_eqb u t h)
 
-minus-same : (g : ℕ → ℕ) (t : ℕ) → minus_one g t t ≡ g t - 1
+pub minus-same : (g : ℕ → ℕ) (t : ℕ) → minus_one g t t ≡ g t - 1
 minus-same g t = ap (λ b. cond b (g t - 1) (g t)) (eq-eqb t t refl)
 
-minus-other : (g : ℕ → ℕ) (t u : ℕ) → (u ≡ t → ⊥) → minus_one g t u ≡ g u
+pub minus-other : (g : ℕ → ℕ) (t u : ℕ) → (u ≡ t → ⊥) → minus_one g t u ≡ g u
 minus-other g t u h = ap (λ b. cond b (g u - 1) (g u)) (ne_eqb u t h)
 
-sum-plus : (k t : ℕ) (g h : ℕ → ℕ) → t < k → sum k (λ u. plus_one g t u * h u) ≡ sum k (λ u. g u * h u) + h t
+pub sum-plus : (k t : ℕ) (g h : ℕ → ℕ) → t < k → sum k (λ u. plus_one g t u * h u) ≡ sum k (λ u. g u * h u) + h t
 sum-plus k t g h l = sum_one k t (h t) (λ u. g u * h u) (λ u. plus_one g t u * h u) l
     (λ u d. ap (λ x. x * h u) (plus-other g t u d)) (ap (λ x. x * h t) (plus-same g t) ∙ omega arith)
 
-sum-minus : (k t : ℕ) (g h : ℕ → ℕ) → t < k → 0 < g t → sum k (λ u. g u * h u) ≡ sum k (λ u. minus_one g t u * h u) + h t
+pub sum-minus : (k t : ℕ) (g h : ℕ → ℕ) → t < k → 0 < g t → sum k (λ u. g u * h u) ≡ sum k (λ u. minus_one g t u * h u) + h t
 sum-minus k t g h l o = sum_one k t (h t) (λ u. minus_one g t u * h u) (λ u. g u * h u) l
     (λ u d. ap (λ x. x * h u) (sym (minus-other g t u d))) (more (g t) (minus_one g t t) (h t) o (minus-same g t))
   where
     more : (a b c : ℕ) → 0 < a → b ≡ a - 1 → a * c ≡ b * c + c
     more a b c o e = let f : a ≡ suc b = omega arith in ap (λ x. x * c) f ∙ omega arith
 
-count-plus : (k t : ℕ) (g : ℕ → ℕ) → t < k → sum k (plus_one g t) ≡ sum k g + 1
+pub count-plus : (k t : ℕ) (g : ℕ → ℕ) → t < k → sum k (plus_one g t) ≡ sum k g + 1
 count-plus k t g l = sum_one k t 1 g (plus_one g t) l (plus-other g t) (plus-same g t)
 
-count-minus : (k t : ℕ) (g : ℕ → ℕ) → t < k → 0 < g t → sum k g ≡ sum k (minus_one g t) + 1
+pub count-minus : (k t : ℕ) (g : ℕ → ℕ) → t < k → 0 < g t → sum k g ≡ sum k (minus_one g t) + 1
 count-minus k t g l o = sum_one k t 1 (minus_one g t) g l (λ u d. sym (minus-other g t u d)) (omega (arith, minus-same g t))
 
 beyond-plus : (k t : ℕ) (g : ℕ → ℕ) → t < k → ((u : ℕ) → k ≤ u → g u ≡ 0) → (u : ℕ) → k ≤ u → plus_one g t u ≡ 0

@@ -1,8 +1,7 @@
 -- What the three questions answer.
-use Rattle.std.proofs.Common.{◌≡◌, ℕ, ◌+◌, ◌<◌, ◌≤◌, Bool, true, false, cond, ltb, Some, None, Ok, Err, Option, sym, refl, ap, ◌∙◌, arith}
+use Rattle.std.proofs.Common.{◌≡◌, ℕ, ◌+◌, ◌<◌, ◌≤◌, Bool, true, false, ltb, Some, None, Ok, Err, Option, sym, refl, ap, ◌∙◌, arith}
 use Rattle.std.proofs.lemmas.Bool.{lt-ltb, ltb-true, ltb-false}
 use Rattle.model.specs.declared.refusal.Refusal.{Refusal}
-use Rattle.model.specs.declared.fault.Fault.{Fault}
 use Rattle.model.specs.Net.{Net}
 use Rattle.model.specs.Plant.{Answer, fault-of, fault-at, refuse-at, refuse-unless, ◌else-by◌, known, short-place, over-place, begin-answer}
 use Rattle.model.specs.declared.refusal.Refusal.TheVariants.{NoMove, Short, OverLimit}

@@ -1,3 +1,5 @@
 // Nets and plants: what everything above them reads and calls.
+#![tactic(auto)]
+
 pub mod net;
 pub mod plant;

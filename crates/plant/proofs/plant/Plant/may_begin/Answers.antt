@@ -1,4 +1,4 @@
-use Rattle.std.proofs.Common.{◌+◌, ◌<◌, ltb, ◌∙◌, arith}
+use Rattle.std.proofs.Common.{◌<◌, ltb, arith}
 use Rattle.std.proofs.lemmas.Bool.{lt-ltb, le-ltb}
 use Rattle.model.specs.declared.refusal.Refusal.TheVariants.{Short}
 use Rattle.plant.proofs.Lowest.{found_here, sought-on, found_nowhere}

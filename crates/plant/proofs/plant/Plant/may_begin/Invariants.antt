@@ -1,4 +1,4 @@
-use Rattle.std.proofs.Common.{◌+◌, ltb}
+use Rattle.std.proofs.Common.{ltb}
 use Rattle.plant.proofs.Lowest.{Sought}
 use Rattle.plant.proofs.plant.Plant.may_begin.Given as goal
 
