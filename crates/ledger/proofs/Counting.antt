@@ -1,0 +1,94 @@
+-- The sums over open grants, when one more is open or one fewer.
+use Rattle.std.proofs.Common.{◌≡◌, ℕ, ◌+◌, ◌*◌, ◌<◌, ◌≤◌, max, ◌⊎◌, ap, sym, refl, ◌∙◌, inl, inr, arith, slice_index, slice_set, replicate, length, List, cond, ◌==◌, ◌-◌}
+use Rattle.std.proofs.lemmas.Bool.{cases_lt, cases_eq, cond-true, cond-false, eq-eqb, ne_eqb}
+use Rattle.std.proofs.lemmas.List.{get_or_past, get_or-replicate, length-replicate, get_or-set_same, get_or-set_other}
+use Rattle.model.specs.Sizes.{most-arc, most-control-arc, most-open}
+use Rattle.model.specs.Net.{Net, Ranges, sum}
+use Rattle.model.specs.Ledger.{open-count, reserved, plus_one, minus_one}
+use Rattle.ledger.specs.declared.grants.Grants.{Grants}
+use Rattle.ledger.specs.Grants.{opened, Tallied}
+use Rattle.model.proofs.Sums.{sum_below, sum-zero, sum-none}
+use Rattle.model.proofs.Moving.{sum-plus, sum-minus, count-plus, count-minus}
+
+-- the most that one grant may bring to a place
+pub brought-small : (n : Net) → Ranges n → (p t : ℕ) → max (n.take p t) (n.give p t) ≤ most-control-arc
+brought-small n r p t = elim (cases_lt p n.ground-places) [
+  inl l ↦ omega (arith, (r.ground-arcs p t l).0, (r.ground-arcs p t l).1)
+  | inr l ↦ omega (arith, (r.control-arcs p t l).0, (r.control-arcs p t l).1)
+]
+
+pub reserved-small : (n : Net) (g : ℕ → ℕ) (p : ℕ) → Ranges n → open-count n g ≤ most-open → reserved n g p ≤ most-open * most-control-arc
+reserved-small n g p r few =
+    let a = sum_below n.moves most-control-arc g (λ u. max (n.take p u) (n.give p u)) (λ u l. brought-small n r p u) in
+    omega (arith, a)
+
+module _ (n : Net) (g : ℕ → ℕ) (t : ℕ) (there : t < n.moves) where
+  pub reserved-plus : (p : ℕ) → reserved n (plus_one g t) p ≡ reserved n g p + max (n.take p t) (n.give p t)
+  reserved-plus p = sum-plus n.moves t g (λ u. max (n.take p u) (n.give p u)) there
+
+  pub reserved-minus : (p : ℕ) → 0 < g t → reserved n g p ≡ reserved n (minus_one g t) p + max (n.take p t) (n.give p t)
+  reserved-minus p o = sum-minus n.moves t g (λ u. max (n.take p u) (n.give p u)) there o
+
+-- ---- tables of counts
+pub zeros : (n i : ℕ) → slice_index (replicate n 0) i ≡ 0
+zeros n i = elim (cases_lt i n) [ inl l ↦ get_or-replicate n i 0 0 l | inr l ↦ get_or_past (replicate n 0) i 0 (let e : length (replicate {A = ℕ} n 0) ≡ n = length-replicate {A = ℕ} n 0 in omega arith) ]
+
+-- one count of the table changed
+set-count : (xs : List ℕ) (t v : ℕ) → t < length xs → opened (slice_set xs t v) ≡ (λ u. cond (u == t) v (opened xs u))
+set-count xs t v l = λ j u. at u j
+  where
+    at : (u : ℕ) → opened (slice_set xs t v) u ≡ cond (u == t) v (opened xs u)
+    at u = elim (cases_eq u t) [
+      inl e ↦ ap (opened (slice_set xs t v)) e ∙ get_or-set_same xs t v 0 l ∙ sym (cond-true (u == t) v (opened xs u) (eq-eqb u t e))
+      | inr ne ↦ get_or-set_other xs t u v 0 ne ∙ sym (cond-false (u == t) v (opened xs u) (ne_eqb u t ne))
+    ]
+
+-- the count at t is changed as the model changes it
+at-that : (f : ℕ → ℕ) (change : ℕ → ℕ) (t : ℕ) → ◌≡◌ {A = ℕ → ℕ} (λ u. cond (u == t) (change (f t)) (f u)) (λ u. cond (u == t) (change (f u)) (f u))
+at-that f change t = λ j u. at u j
+  where
+    at : (u : ℕ) → cond (u == t) (change (f t)) (f u) ≡ cond (u == t) (change (f u)) (f u)
+    at u = elim (cases_eq u t) [
+      inl e ↦ ap (λ v. cond (u == t) (change (f v)) (f u)) (sym e)
+      | inr ne ↦ cond-false (u == t) (change (f t)) (f u) (ne_eqb u t ne) ∙ sym (cond-false (u == t) (change (f u)) (f u) (ne_eqb u t ne))
+    ]
+
+pub count-raised : (xs : List ℕ) (t : ℕ) → t < length xs → opened (slice_set xs t (slice_index xs t + 1)) ≡ plus_one (opened xs) t
+count-raised xs t l = set-count xs t (slice_index xs t + 1) l ∙ at-that (opened xs) (λ v. v + 1) t
+
+pub count-lowered : (xs : List ℕ) (t : ℕ) → t < length xs → opened (slice_set xs t (slice_index xs t - 1)) ≡ minus_one (opened xs) t
+count-lowered xs t l = set-count xs t (slice_index xs t - 1) l ∙ at-that (opened xs) (λ v. v - 1) t
+
+-- ---- the tally with one grant more, and with one fewer
+module _ (n : Net) (old new : Grants) (t : ℕ) (there : t < n.moves) (tallied : Tallied n old) where
+  pub tally-more : old.total < most-open → opened new.counts ≡ plus_one (opened old.counts) t → new.total ≡ old.total + 1
+      → ((p : ℕ) → p < n.places → slice_index new.reserved p ≡ slice_index old.reserved p + max (n.take p t) (n.give p t)) → Tallied n new
+  tally-more room counts total raised = record {
+    total-is = total ∙ ap (λ x. x + 1) tallied.total-is ∙ sym (count-plus n.moves t (opened old.counts) there) ∙ ap (open-count n) (sym counts);
+    few = omega arith;
+    reserved-is = λ p l. raised p l ∙ ap (λ x. x + max (n.take p t) (n.give p t)) (tallied.reserved-is p l) ∙ sym (reserved-plus n (opened old.counts) t there p) ∙ ap (λ g. reserved n g p) (sym counts);
+  }
+
+  pub tally-fewer : 0 < opened old.counts t → opened new.counts ≡ minus_one (opened old.counts) t → new.total ≡ old.total - 1
+      → ((p : ℕ) → p < n.places → slice_index new.reserved p ≡ slice_index old.reserved p - max (n.take p t) (n.give p t)) → Tallied n new
+  tally-fewer some counts total lowered =
+      let m : open-count n (opened old.counts) ≡ open-count n (minus_one (opened old.counts) t) + 1 = count-minus n.moves t (opened old.counts) there some in
+      record {
+        total-is = (omega (arith, m, tallied.total-is)) ∙ ap (open-count n) (sym counts);
+        few = omega (arith, tallied.few);
+        reserved-is = λ p l. lowered p l ∙ down (slice_index old.reserved p) (reserved n (opened old.counts) p) (reserved n (minus_one (opened old.counts) t) p) (max (n.take p t) (n.give p t)) (tallied.reserved-is p l) (reserved-minus n (opened old.counts) t there p some) ∙ ap (λ g. reserved n g p) (sym counts);
+      }
+    where
+      down : (x a b m : ℕ) → x ≡ a → a ≡ b + m → x - m ≡ b
+      down x a b m e h = omega arith
+
+-- what one open grant may bring to a place is in the sum kept for it
+pub brought-held : (n : Net) (g : ℕ → ℕ) (t p : ℕ) → t < n.moves → 0 < g t → max (n.take p t) (n.give p t) ≤ reserved n g p
+brought-held n g t p there some = omega (arith, reserved-minus n g t there p some)
+
+pub tallied-none : (n : Net) (g : Grants) → opened g.counts ≡ (λ t. 0) → g.total ≡ 0 → ((p : ℕ) → slice_index g.reserved p ≡ 0) → Tallied n g
+tallied-none n g none total zero = record {
+  total-is = total ∙ sym (ap (open-count n) none ∙ sum-zero n.moves);
+  few = omega arith;
+  reserved-is = λ p l. zero p ∙ sym (ap (λ (f : ℕ → ℕ). reserved n f p) none ∙ sum-none n.moves (λ t. 0) (λ u. max (n.take p u) (n.give p u)) (λ i k. refl));
+}

@@ -1,0 +1,2 @@
+pub mod Grants
+pub mod Ledgers

@@ -1,0 +1,48 @@
+// The setter's call, where a board is the top layer: a rule is admitted to one of its rows.
+ghost use Rattle.std.specs.Prelude.{◌≡◌, ℕ, ◌==◌};
+ghost use Rattle.model.specs.declared.refusal.Refusal.TheVariants.{GrantsOpen};
+ghost use Rattle.model.specs.Plant.{setting-fault, refuse-unless};
+ghost use Rattle.model.specs.Ledger.{admit, answer, next};
+ghost use Rattle.rules.specs.Rules.{rule-of};
+ghost use Rattle.ledger.specs.Ledgers.{ledger-of};
+
+use crate::ledger::Ledger;
+use layers::board::Board;
+use model::fault::Fault;
+use model::refusal::Refusal;
+use plant::plant::Plant;
+use rules::typed::TypedRule;
+
+impl<P: Plant> Ledger<Board<P>> {
+    // Refused while any grant is open.
+    fn check_none_open(&self) -> Result<(), Fault>
+        ensures { result ≡ refuse-unless (self.now.grants.total == 0) (setting-fault GrantsOpen) }
+    {
+        if self.grants.total() == 0 {
+            Ok(())
+        } else {
+            Err(Fault {
+                refusal: Refusal::GrantsOpen,
+                transition: None,
+                spot: None,
+            })
+        }
+    }
+
+    // What `admit` would answer now.
+    pub fn may_admit(&self, r: usize, rule: &TypedRule) -> Result<(), Fault>
+        ensures { result ≡ answer (ledger-of (⟦<Board<P> as Plant>⟧.pile self.now.pile) self.now.grants) (admit r (rule-of rule.now)) }
+    {
+        self.check_none_open()?;
+        self.pile.may_set(r, rule)
+    }
+
+    // Sets the row `r` of the board to the rule, while no grant is open.
+    pub fn admit(&mut self, r: usize, rule: &TypedRule) -> Result<(), Fault>
+        ensures answer { result ≡ answer (ledger-of (⟦<Board<P> as Plant>⟧.pile self.old.pile) self.old.grants) (admit r (rule-of rule.now)) }
+        ensures after { ledger-of (⟦<Board<P> as Plant>⟧.pile self.new.pile) self.new.grants ≡ next (ledger-of (⟦<Board<P> as Plant>⟧.pile self.old.pile) self.old.grants) (admit r (rule-of rule.now)) }
+    {
+        self.check_none_open()?;
+        self.pile.set(r, rule)
+    }
+}

@@ -1,0 +1,142 @@
+// What the calls of a ledger would answer now: the checks of each in their order. A question changes nothing.
+ghost use Rattle.std.specs.Prelude.{◌≡◌, ℕ, ◌<◌, not};
+ghost use Rattle.model.specs.declared.refusal.Refusal.TheVariants.{Controllable};
+ghost use Rattle.model.specs.Ledger.{grant, commit, cancel, report, answer, crowded, crowded-place, room-answer, grant-checks, is_open};
+ghost use Rattle.model.specs.Plant.{fault-of, known, refuse-unless};
+ghost use Rattle.ledger.specs.Grants.{opened};
+ghost use Rattle.ledger.specs.Ledgers.{ledger-of};
+
+use crate::ledger::Ledger;
+use model::fault::{Fault, Spot};
+use model::refusal::Refusal;
+use model::sizes::MOST_OPEN;
+use plant::plant::Plant;
+
+// The fault of the move `t`, for no place.
+fn fault(refusal: Refusal, t: usize) -> Fault
+    ensures { result ≡ fault-of refusal t }
+{
+    Fault {
+        refusal,
+        transition: Some(t),
+        spot: None,
+    }
+}
+
+// Accepted if the test holds, else refused for the move `t`.
+fn check(holds: bool, refusal: Refusal, t: usize) -> Result<(), Fault>
+    ensures { result ≡ refuse-unless holds (fault-of refusal t) }
+{
+    if holds {
+        Ok(())
+    } else {
+        Err(fault(refusal, t))
+    }
+}
+
+impl<P: Plant> Ledger<P> {
+    // Refused for a missing move.
+    pub(crate) fn check_known(&self, t: usize) -> Result<(), Fault>
+        ensures { result ≡ known (P.Net.net self.now.pile) t }
+    {
+        check(t < self.pile.moves(), Refusal::NoMove, t)
+    }
+
+    // The checks of a grant before any place is looked at.
+    fn check_grant(&self, t: usize) -> Result<(), Fault>
+        ensures { result ≡ grant-checks (P.Net.net self.now.pile) (opened self.now.grants.counts) t }
+    {
+        self.check_known(t)?;
+        check(self.pile.controllable(t), Refusal::Uncontrollable, t)?;
+        check(self.grants.total() < MOST_OPEN, Refusal::TooManyOpen, t)
+    }
+
+    // Refused if no grant of the move is open.
+    pub(crate) fn check_open(&self, t: usize) -> Result<(), Fault>
+        ensures { result ≡ is_open (opened self.now.grants.counts) t }
+    {
+        check(0 < self.grants.of(t), Refusal::NotOpen, t)
+    }
+
+    // Whether the place has no room for the move, were it and all open grants settled either way.
+    fn is_crowded(&self, p: usize, t: usize) -> bool
+        requires { p < (P.Net.net self.now.pile).places }
+        ensures { result ≡ crowded (P.Net.net self.now.pile) (P.Plant.tokens self.now.pile) (opened self.now.grants.counts) t p }
+    {
+        let take = u64::from(self.pile.take(p, t));
+        let most = take.max(u64::from(self.pile.give(p, t)));
+        let limit = u64::from(self.pile.limit(p));
+        let free = u64::from(self.pile.free(p));
+        limit + take < free + most + u64::from(self.grants.reserved(p))
+    }
+
+    // The lowest place that has no room for the move.
+    fn crowded_place(&self, t: usize) -> Option<usize>
+        ensures { result ≡ crowded-place (P.Net.net self.now.pile) (P.Plant.tokens self.now.pile) (opened self.now.grants.counts) t }
+    {
+        'places: for p in 0..self.pile.places() {
+            if self.is_crowded(p, t) {
+                return Some(p);
+            }
+        }
+        None
+    }
+
+    // Refused at the lowest place that has no room for the move.
+    fn check_room(&self, t: usize) -> Result<(), Fault>
+        ensures { result ≡ room-answer (P.Net.net self.now.pile) (P.Plant.tokens self.now.pile) (opened self.now.grants.counts) t }
+    {
+        match self.crowded_place(t) {
+            Some(p) => {
+                let spot = Spot {
+                    place: p,
+                    layer: self.pile.layer(p),
+                    row: self.pile.row(p),
+                };
+                Err(Fault {
+                    refusal: Refusal::NoRoom,
+                    transition: Some(t),
+                    spot: Some(spot),
+                })
+            }
+            None => Ok(()),
+        }
+    }
+
+    // What `grant` would answer now.
+    pub fn may_grant(&self, t: usize) -> Result<(), Fault>
+        ensures { result ≡ answer (ledger-of (P.Plant.pile self.now.pile) self.now.grants) (grant t) }
+    {
+        self.check_grant(t)?;
+        self.pile.may_begin(t)?;
+        self.check_room(t)
+    }
+
+    // What `commit` would answer now.
+    pub fn may_commit(&self, t: usize) -> Result<(), Fault>
+        ensures { result ≡ answer (ledger-of (P.Plant.pile self.now.pile) self.now.grants) (commit t) }
+    {
+        self.check_known(t)?;
+        self.check_open(t)?;
+        self.pile.may_finish(t)
+    }
+
+    // What `cancel` would answer now.
+    pub fn may_cancel(&self, t: usize) -> Result<(), Fault>
+        ensures { result ≡ answer (ledger-of (P.Plant.pile self.now.pile) self.now.grants) (cancel t) }
+    {
+        self.check_known(t)?;
+        self.check_open(t)?;
+        self.pile.may_back(t)
+    }
+
+    // What `report` would answer now.
+    pub fn may_report(&self, t: usize) -> Result<(), Fault>
+        ensures { result ≡ answer (ledger-of (P.Plant.pile self.now.pile) self.now.grants) (report t) }
+    {
+        self.check_known(t)?;
+        check(!self.pile.controllable(t), Refusal::Controllable, t)?;
+        self.pile.may_begin(t)?;
+        self.check_room(t)
+    }
+}
