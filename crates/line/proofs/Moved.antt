@@ -1,5 +1,5 @@
 -- The tokens of a line after one place has one token less or more.
-use Rattle.std.proofs.Common.{◌≡◌, ℕ, ◌+◌, ◌-◌, ◌<◌, ◌≤◌, Bool, true, cond, ltb, List, get_or, Ok, sym, refl, ap, ◌∙◌, ⊎_elim, arith}
+use Rattle.std.proofs.Common.{◌≡◌, ℕ, ◌+◌, ◌-◌, ◌<◌, Bool, cond, ltb, List, get_or, Ok, sym, ap, ◌∙◌, ⊎_elim, arith}
 use Rattle.std.proofs.lemmas.Bool.{cond-true, cases_eq}
 use Rattle.model.specs.Plant.{Answer, accepted, begin-answer, back-answer, begun, gone-back}
 use Rattle.line.proofs.Firing.{net, held, arc-here, arc-else, has_here}

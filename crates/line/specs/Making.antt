@@ -11,7 +11,6 @@ use Rattle.model.specs.Net.{Net}
 use Rattle.model.specs.Sizes.{most-limit, most-moves}
 use Rattle.formats.specs.declared.kind.Kind.TheVariants as kinds
 use Rattle.net_text.specs.declared.net.Place.{Place}
-use Rattle.net_text.specs.declared.net.Move.{Move}
 use Rattle.net_text.specs.declared.net.NetText.{NetText}
 use Rattle.net_text.specs.Nets.{no_place, limit-at, tokens-at, letter_at}
 use Rattle.line.specs.declared.line.Line.{Line}

@@ -1,7 +1,7 @@
 -- A table that is made of a net text is the net that the records say.
-use Rattle.std.proofs.Common.{◌≡◌, ℕ, zero, suc, ◌+◌, ◌*◌, ◌<◌, ◌≤◌, Bool, true, false, cond, ◌&&◌, eqb, ltb, leb, ◌⊎◌, List, [], ◌∷◌, length, get_or, vec_items, vec_len, fold, sym, refl, ap, ◌∙◌, ap₂, inl, inr, arith}
+use Rattle.std.proofs.Common.{◌≡◌, ℕ, ◌<◌, ◌≤◌, Bool, true, false, cond, ◌&&◌, eqb, ltb, leb, ◌⊎◌, List, [], ◌∷◌, length, get_or, vec_items, vec_len, fold, sym, refl, ap, ◌∙◌, ap₂, inl, inr, arith}
 use Rattle.std.proofs.lemmas.List.{get_or_past}
-use Rattle.std.proofs.lemmas.Bool.{cases_lt, cases_eq, cond-true, cond-false, lt-ltb, le-ltb, le-leb, ltb-true, leb-true, eq-eqb, ne_eqb, and_parts, and_from, and_left, and_right}
+use Rattle.std.proofs.lemmas.Bool.{cases_lt, cases_eq, cond-false, lt-ltb, le-ltb, le-leb, leb-true, eq-eqb, ne_eqb, and_parts, and_from, and_left, and_right}
 use Rattle.formats.specs.Words.{all}
 use Rattle.formats.specs.ReadNet.{is-net}
 use Rattle.net_text.specs.declared.net.Arc.{Arc}
@@ -15,7 +15,7 @@ use Rattle.table.specs.declared.side.Side.{Side}
 use Rattle.table.specs.Tables.{table-net, at}
 use Rattle.table.specs.Made.{amount-of, arc-amount, slot, joins, is-filled, some-few, is-fit}
 use Rattle.table.proofs.Copying.{joined-parts, filled-parts, all-at}
-use Rattle.table.proofs.Firing.{column-in, column-out, inside, outside}
+use Rattle.table.proofs.Firing.{inside, outside}
 
 -- ---- what fits
 pub record Fits (x : NetText) : Type 0 where

@@ -8,13 +8,12 @@
 --   text-net         the net that the records say
 --   text-tokens      the tokens that they say, at each place
 --   Made x r         r is the table of x, or there is none since x does not fit
-use Rattle.std.specs.Prelude.{◌≡◌, ℕ, Bool, true, false, cond, ◌&&◌, List, length, Some, None, vec_items, vec_len, fold, Option, ◌==◌, nat_le, nat_lt}
+use Rattle.std.specs.Prelude.{◌≡◌, ℕ, Bool, true, false, cond, ◌&&◌, List, Some, None, vec_items, vec_len, fold, Option, ◌==◌, nat_le, nat_lt}
 use Rattle.model.specs.Sizes.{most-places, most-moves, most-arc, most-limit}
 use Rattle.model.specs.Net.{Net}
 use Rattle.formats.specs.Words.{all}
 use Rattle.formats.specs.ReadNet.{is-net}
 use Rattle.net_text.specs.declared.net.Place.{Place}
-use Rattle.net_text.specs.declared.net.Move.{Move}
 use Rattle.net_text.specs.declared.net.Arc.{Arc}
 use Rattle.net_text.specs.declared.net.NetText.{NetText}
 use Rattle.net_text.specs.Nets.{tokens-at, limit-at, letter_at}

@@ -1,7 +1,6 @@
-use Rattle.std.proofs.Common.{◌≡◌, ℕ, ◌<◌, ◌≤◌, false, List, length, get_or, vec_items, ap, ◌∙◌, arith, rules}
+use Rattle.std.proofs.Common.{◌≡◌, ℕ, false, List, length, get_or, vec_items, ap, ◌∙◌, arith, rules}
 use Rattle.net_text.specs.declared.net.Place.{Place}
 use Rattle.net_text.specs.declared.net.Move.{Move}
-use Rattle.model.specs.Sizes.{most-moves}
 use Rattle.net_text.specs.Nets.{limit-at, tokens-at, letter_at}
 use Rattle.line.proofs.Recorded.{some-made, small-made, held-made, tokens-made, net-made}
 use Rattle.line.proofs.making.make.Goals as goal

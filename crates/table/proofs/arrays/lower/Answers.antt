@@ -1,4 +1,4 @@
-use Rattle.std.proofs.Common.{ℕ, ◌-◌, ◌<◌, cond, ltb, length, get_or, sym, ap, ◌∙◌, ap₂, arith, length-set}
+use Rattle.std.proofs.Common.{ℕ, ◌-◌, cond, ltb, get_or, ap, ◌∙◌, ap₂, arith, length-set}
 use Rattle.table.specs.Tables.{at}
 use Rattle.table.proofs.Columns.{changed-none, changed-at, changed-more}
 use Rattle.table.proofs.arrays.lower.Goals as goal

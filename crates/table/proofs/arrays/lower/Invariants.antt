@@ -1,4 +1,4 @@
-use Rattle.std.proofs.Common.{◌≡◌, ◌-◌, ◌≤◌, length, get_or}
+use Rattle.std.proofs.Common.{◌≡◌, ◌-◌, length, get_or}
 use Rattle.model.specs.Sizes.{most-places}
 use Rattle.table.specs.Tables.{at}
 use Rattle.table.proofs.Columns.{Changed}

@@ -1,4 +1,4 @@
-use Rattle.std.proofs.Common.{ℕ, false, refl, arith}
+use Rattle.std.proofs.Common.{false, refl, arith}
 use Rattle.net_text.specs.declared.net.Move.{Move}
 use Rattle.net_text.specs.Nets.{no_move}
 use Rattle.table.proofs.Copying.{copied_none, copied_all}

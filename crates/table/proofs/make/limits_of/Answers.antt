@@ -1,4 +1,4 @@
-use Rattle.std.proofs.Common.{ℕ, refl, subst, arith}
+use Rattle.std.proofs.Common.{arith}
 use Rattle.net_text.specs.declared.net.Place.{Place}
 use Rattle.net_text.specs.Nets.{no_place}
 use Rattle.table.proofs.Copying.{copied_none, limits-within}

@@ -1,4 +1,3 @@
-use Rattle.std.proofs.Common.{ℕ}
 use Rattle.net_text.specs.declared.net.Place.{Place}
 use Rattle.net_text.specs.Nets.{no_place}
 use Rattle.table.proofs.Copying.{Copied}

@@ -1,4 +1,4 @@
-use Rattle.std.proofs.Common.{◌≡◌, ℕ, ◌≤◌, Bool, ◌&&◌, ltb, length, vec_items, vec_len, sym, ap, ◌∙◌, arith}
+use Rattle.std.proofs.Common.{◌≡◌, ◌≤◌, Bool, ◌&&◌, ltb, length, vec_items, vec_len, sym, ap, ◌∙◌, arith}
 use Rattle.model.specs.Sizes.{most-places, most-moves}
 use Rattle.table.specs.declared.side.Side.TheVariants.{Take, Give}
 use Rattle.formats.specs.Words.{all}
@@ -30,7 +30,7 @@ invariant_of-result-clause-held c =
     let f = fits-parts x (sym c.if-not-is_fit.ensures) in
     let ps = vec_items x.places in
     held_by ps c.tokens_of.result c.limits_of.result f.filled (tokens-on c.tokens_of.result c.deref-5.result.now ps c.deref-5.ensures.value c.tokens_of.ensures)
-        (limits-on c.limits_of.result c.deref-4.result.now ps c.deref-4.ensures.value c.limits_of.ensures.value) c.limits_of.ensures.some
+    (limits-on c.limits_of.result c.deref-4.result.now ps c.deref-4.ensures.value c.limits_of.ensures.value) c.limits_of.ensures.some
 
 pub returns : goal.returns
 returns c =

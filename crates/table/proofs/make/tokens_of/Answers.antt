@@ -1,4 +1,4 @@
-use Rattle.std.proofs.Common.{ℕ, refl, arith}
+use Rattle.std.proofs.Common.{refl, arith}
 use Rattle.net_text.specs.declared.net.Place.{Place}
 use Rattle.net_text.specs.Nets.{no_place}
 use Rattle.table.proofs.Copying.{copied_none, copied_all}

@@ -1,4 +1,4 @@
-use Rattle.std.proofs.Common.{◌≡◌, ◌-◌, ap, ◌∙◌, arith, rules}
+use Rattle.std.proofs.Common.{◌≡◌, ◌-◌, ◌∙◌, arith, rules}
 use Rattle.model.specs.Plant.{begun}
 use Rattle.plant.proofs.Alone.{alone-begun}
 use Rattle.line.specs.Lines.{net-of, tokens-of}

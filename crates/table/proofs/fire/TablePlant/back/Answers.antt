@@ -1,4 +1,4 @@
-use Rattle.std.proofs.Common.{◌≡◌, ℕ, ◌≤◌, cond, ltb, get_or, refl, arith}
+use Rattle.std.proofs.Common.{◌≡◌, ℕ, cond, ltb, get_or, refl, arith}
 use Rattle.model.specs.Plant.{gone-back, back-answer}
 use Rattle.plant.proofs.Alone.{alone-gone-back}
 use Rattle.plant.proofs.Answering.{fits}

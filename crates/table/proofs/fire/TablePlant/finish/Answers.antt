@@ -1,4 +1,4 @@
-use Rattle.std.proofs.Common.{◌≡◌, ℕ, ◌≤◌, cond, ltb, get_or, refl, arith}
+use Rattle.std.proofs.Common.{◌≡◌, ℕ, cond, ltb, get_or, refl, arith}
 use Rattle.model.specs.Plant.{finished, finish-answer}
 use Rattle.plant.proofs.Alone.{alone-finished}
 use Rattle.plant.proofs.Answering.{fits}
