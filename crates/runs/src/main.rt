@@ -1,5 +1,7 @@
 // A short run by hand on a plant of each kind: to full, to empty, and the refusals with their places. For each call its
 // answer is printed, a refusal by its number, and the tokens at every place after it.
+#![tactic(auto)]
+
 use formats::kind::Kind;
 use model::fault::Fault;
 use net_text::reader::read_net;
