@@ -1,3 +1,4 @@
 pub mod Counting
 pub mod Asked
 pub mod Admitted
+pub mod Upheld

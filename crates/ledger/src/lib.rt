@@ -3,6 +3,9 @@
 
 mod admitting;
 mod asking;
+pub mod call;
 mod calls;
 pub mod grants;
 pub mod ledger;
+mod run;
+pub mod slip;

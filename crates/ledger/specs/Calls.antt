@@ -1,0 +1,28 @@
+-- Lists of calls, and what is promised of them.
+--   call-of      the model's call
+--   calls-of     the model's list of calls
+--   promised     what the promise says of the ledger l, opened on the pile p with the rules rs in force, after the calls cs: it is that
+--                which the calls lead to, and all is upheld of it and of the book of the calls
+use Rattle.std.specs.Prelude.{◌≡◌, List, map}
+use Rattle.model.specs.Layer.{Pile, InForce}
+use Rattle.model.specs.Ledger as model
+use Rattle.model.specs.Ledger.{run, answers, new-ledger}
+use Rattle.model.specs.Book.{book-of, acceptances}
+use Rattle.model.specs.Promise.{Upheld}
+use Rattle.rules.specs.Rules.{rule-of}
+use Rattle.ledger.specs.declared.call.Call.{Call}
+use Rattle.ledger.specs.declared.call.Call.TheVariants.{Grant, Commit, Cancel, Report, Admit}
+
+abbrev pub call-of : Call → model.Call
+call-of (Grant t) = model.grant t
+call-of (Commit t) = model.commit t
+call-of (Cancel t) = model.cancel t
+call-of (Report t) = model.report t
+call-of (Admit r rule) = model.admit r (rule-of rule)
+
+abbrev pub calls-of : List Call → List model.Call
+calls-of cs = map call-of cs
+
+pub record Promised (p : Pile) (rs : List InForce) (cs : List model.Call) (l : model.Ledger) : Type 0 where
+  pub reached : l ≡ run (new-ledger p) cs
+  pub upheld : Upheld l (book-of p rs cs (acceptances (answers (new-ledger p) cs)))
