@@ -1,17 +1,16 @@
 -- A ledger after its board was asked to set a row, while no grant is open.
-use Rattle.std.proofs.Common.{◌≡◌, ℕ, zero, suc, ◌+◌, ◌*◌, ◌<◌, ◌≤◌, max, Bool, true, false, cond, ◌==◌, Ok, Err, Result, sym, ap, ◌∙◌, refl, subst, arith, slice_index, eqb-true}
+use Rattle.std.proofs.Common.{◌≡◌, ℕ, ◌<◌, max, Bool, true, false, ◌==◌, Ok, Err, sym, ap, ◌∙◌, refl, subst, arith, eqb-true}
 use Rattle.model.specs.declared.refusal.Refusal.TheVariants.{GrantsOpen}
 use Rattle.model.specs.declared.fault.Fault.{Fault}
 use Rattle.model.specs.Net.{Net, sum}
 use Rattle.model.specs.Plant.{Answer, ◌else-by◌, setting-fault, refuse-unless}
-use Rattle.model.specs.Rule.{Rule, Worked}
-use Rattle.model.specs.Working.{work}
+use Rattle.model.specs.Rule.{Rule}
 use Rattle.model.specs.Layer.{Row, Pile, pile-net, is-shut, layer-net, row_count, with-rule, board-answer}
-use Rattle.model.specs.Ledger.{Ledger, admit, open-count, reserved, set-by, answer, next, done}
+use Rattle.model.specs.Ledger.{admit, open-count, reserved, set-by, answer, next}
 use Rattle.model.proofs.Sums.{le-sum, sum-none}
 use Rattle.model.proofs.Layering.{net-opens, net-shuts}
 use Rattle.model.proofs.Standing.{refused-still}
-use Rattle.model.proofs.Checks.{refuse-unless-ok, err-not-ok}
+use Rattle.model.proofs.Checks.{refuse-unless-ok}
 use Rattle.layers.specs.Setting.{SetTo}
 use Rattle.ledger.specs.declared.grants.Grants.{Grants}
 use Rattle.ledger.specs.Grants.{opened, Tallied}
@@ -24,9 +23,10 @@ module _ (size : ℕ) (n : Net) (rows rows' : ℕ → Row) where
   same-sizes true e =
       let a : layer-net size n rows' ≡ layer-net size n rows = net-shuts size n rows' e ∙ sym (net-shuts size n rows e) in
       (ap (λ (m : Net). m.moves) a, ap (λ (m : Net). m.places) a)
-  same-sizes false e =
-      (ap (λ (m : Net). m.moves) (net-opens size n rows' e) ∙ sym (ap (λ (m : Net). m.moves) (net-opens size n rows e)),
-      ap (λ (m : Net). m.places) (net-opens size n rows' e) ∙ sym (ap (λ (m : Net). m.places) (net-opens size n rows e)))
+  same-sizes false e = (
+    ap (λ (m : Net). m.moves) (net-opens size n rows' e) ∙ sym (ap (λ (m : Net). m.moves) (net-opens size n rows e)),
+    ap (λ (m : Net). m.places) (net-opens size n rows' e) ∙ sym (ap (λ (m : Net). m.places) (net-opens size n rows e)),
+  )
 
 -- with no grant open, the tally is that of every net with the same moves and places
 tally-idle : (n m : Net) (g : Grants) → m.moves ≡ n.moves → m.places ≡ n.places → g.total ≡ 0 → Tallied n g → Tallied m g

@@ -1,5 +1,5 @@
 -- What the calls of a ledger answer, from the answers of its checks.
-use Rattle.std.proofs.Common.{◌≡◌, ℕ, ◌<◌, cond, not, Ok, sym, ap, ◌∙◌}
+use Rattle.std.proofs.Common.{◌≡◌, ℕ, cond, not, Ok, sym, ◌∙◌}
 use Rattle.model.specs.declared.refusal.Refusal.TheVariants.{Controllable}
 use Rattle.model.specs.Net.{Net}
 use Rattle.model.specs.Plant.{Answer, accepted, fault-of, refuse-unless, known, ◌else-by◌, begin-answer, begun, finish-answer}
@@ -29,8 +29,8 @@ module _ (p : Pile) (n : Net) (free : ℕ → ℕ) (g : Grants) (t : ℕ) (net :
       (λ i. finish-answer (e i) (f i) t)
       ∙ (λ i. finish-answer (sym net i) (begun (sym net i) (sym tokens i) t) t)
       ∙ last-accepts (known (pile-net p) t) (refuse-unless (not ((pile-net p).controllable t)) (fault-of Controllable t)) (begin-answer (pile-net p) (pile-free p) t)
-          (room-answer (pile-net p) (pile-free p) (opened g.counts) t) (finish-answer (pile-net p) (begun (pile-net p) (pile-free p) t) t)
-          (sym (report-is (ledger-of p g) t) ∙ sym a)
+      (room-answer (pile-net p) (pile-free p) (opened g.counts) t) (finish-answer (pile-net p) (begun (pile-net p) (pile-free p) t) t)
+      (sym (report-is (ledger-of p g) t) ∙ sym a)
     where
       last-accepts : (a b c d e : Answer) → (a else-by b else-by c else-by d else-by e) ≡ Ok tt → e ≡ Ok tt
       last-accepts a b c d e h = (else-ok d e (else-ok c (d else-by e) (else-ok b (c else-by d else-by e) (else-ok a (b else-by c else-by d else-by e) h).1).1).1).1

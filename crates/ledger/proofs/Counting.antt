@@ -1,19 +1,19 @@
 -- The sums over open grants, when one more is open or one fewer.
-use Rattle.std.proofs.Common.{◌≡◌, ℕ, ◌+◌, ◌*◌, ◌<◌, ◌≤◌, max, ◌⊎◌, ap, sym, refl, ◌∙◌, inl, inr, arith, slice_index, slice_set, replicate, length, List, cond, ◌==◌, ◌-◌}
+use Rattle.std.proofs.Common.{◌≡◌, ℕ, ◌+◌, ◌*◌, ◌<◌, ◌≤◌, max, ap, sym, refl, ◌∙◌, inl, inr, arith, slice_index, slice_set, replicate, length, List, cond, ◌==◌, ◌-◌, zero, suc, subst, le_trans, mul-le-mul}
 use Rattle.std.proofs.lemmas.Bool.{cases_lt, cases_eq, cond-true, cond-false, eq-eqb, ne_eqb}
 use Rattle.std.proofs.lemmas.List.{get_or_past, get_or-replicate, length-replicate, get_or-set_same, get_or-set_other}
-use Rattle.model.specs.Sizes.{most-arc, most-control-arc, most-open}
+use Rattle.model.specs.Sizes.{most-control-arc, most-open, control-limit}
 use Rattle.model.specs.Net.{Net, Ranges, sum}
 use Rattle.model.specs.Ledger.{open-count, reserved, plus_one, minus_one}
 use Rattle.ledger.specs.declared.grants.Grants.{Grants}
 use Rattle.ledger.specs.Grants.{opened, Tallied}
-use Rattle.model.proofs.Sums.{sum_below, sum-zero, sum-none}
+use Rattle.model.proofs.Sums.{sum_below, le-sum, sum-zero, sum-none}
 use Rattle.model.proofs.Moving.{sum-plus, sum-minus, count-plus, count-minus}
 
 -- the most that one grant may bring to a place
 pub brought-small : (n : Net) → Ranges n → (p t : ℕ) → max (n.take p t) (n.give p t) ≤ most-control-arc
 brought-small n r p t = elim (cases_lt p n.ground-places) [
-  inl l ↦ omega (arith, (r.ground-arcs p t l).0, (r.ground-arcs p t l).1)
+  | inl l ↦ omega (arith, (r.ground-arcs p t l).0, (r.ground-arcs p t l).1)
   | inr l ↦ omega (arith, (r.control-arcs p t l).0, (r.control-arcs p t l).1)
 ]
 
@@ -39,7 +39,7 @@ set-count xs t v l = λ j u. at u j
   where
     at : (u : ℕ) → opened (slice_set xs t v) u ≡ cond (u == t) v (opened xs u)
     at u = elim (cases_eq u t) [
-      inl e ↦ ap (opened (slice_set xs t v)) e ∙ get_or-set_same xs t v 0 l ∙ sym (cond-true (u == t) v (opened xs u) (eq-eqb u t e))
+      | inl e ↦ ap (opened (slice_set xs t v)) e ∙ get_or-set_same xs t v 0 l ∙ sym (cond-true (u == t) v (opened xs u) (eq-eqb u t e))
       | inr ne ↦ get_or-set_other xs t u v 0 ne ∙ sym (cond-false (u == t) v (opened xs u) (ne_eqb u t ne))
     ]
 
@@ -49,7 +49,7 @@ at-that f change t = λ j u. at u j
   where
     at : (u : ℕ) → cond (u == t) (change (f t)) (f u) ≡ cond (u == t) (change (f u)) (f u)
     at u = elim (cases_eq u t) [
-      inl e ↦ ap (λ v. cond (u == t) (change (f v)) (f u)) (sym e)
+      | inl e ↦ ap (λ v. cond (u == t) (change (f v)) (f u)) (sym e)
       | inr ne ↦ cond-false (u == t) (change (f t)) (f u) (ne_eqb u t ne) ∙ sym (cond-false (u == t) (change (f u)) (f u) (ne_eqb u t ne))
     ]
 
@@ -87,8 +87,36 @@ pub brought-held : (n : Net) (g : ℕ → ℕ) (t p : ℕ) → t < n.moves → 0
 brought-held n g t p there some = omega (arith, reserved-minus n g t there p some)
 
 pub tallied-none : (n : Net) (g : Grants) → opened g.counts ≡ (λ t. 0) → g.total ≡ 0 → ((p : ℕ) → slice_index g.reserved p ≡ 0) → Tallied n g
-tallied-none n g none total zero = record {
+tallied-none n g none total nothing = record {
   total-is = total ∙ sym (ap (open-count n) none ∙ sum-zero n.moves);
   few = omega arith;
-  reserved-is = λ p l. zero p ∙ sym (ap (λ (f : ℕ → ℕ). reserved n f p) none ∙ sum-none n.moves (λ t. 0) (λ u. max (n.take p u) (n.give p u)) (λ i k. refl));
+  reserved-is = λ p l. nothing p ∙ sym (ap (λ (f : ℕ → ℕ). reserved n f p) none ∙ sum-none n.moves (λ t. 0) (λ u. max (n.take p u) (n.give p u)) (λ i k. refl));
 }
+
+-- ---- markings
+sum-part : (k m : ℕ) (f : ℕ → ℕ) → k ≤ m → sum k f ≤ sum m f
+sum-part k zero f l = let e : k ≡ 0 = omega arith in subst (λ j. sum j f ≤ sum 0 f) (sym e) (omega arith)
+sum-part k (suc m) f l = elim (cases_lt k (suc m)) [
+  | inl h ↦ omega (arith, sum-part k m f (omega arith))
+  | inr h ↦ let e : k ≡ suc m = omega arith in subst (λ j. sum j f ≤ sum (suc m) f) (sym e) (omega arith)
+]
+
+take-small : (n : Net) → Ranges n → (p t : ℕ) → n.take p t ≤ most-control-arc
+take-small n r p t = elim (cases_lt p n.ground-places) [ inl l ↦ omega (arith, (r.ground-arcs p t l).0) | inr l ↦ omega (arith, (r.control-arcs p t l).0) ]
+
+limit-small : (n : Net) → Ranges n → (p : ℕ) → n.limit p ≤ control-limit
+limit-small n r p = elim (cases_lt p n.ground-places) [
+  | inl l ↦ omega (arith, (r.ground-limit p l).1)
+  | inr l ↦ elim (cases_lt p n.places) [ inl k ↦ omega (arith, r.control-limited p l k) | inr k ↦ omega (arith, (r.no_place p 0 k).2) ]
+]
+
+-- what has been added up after the move t still fits
+module _ (n : Net) (r : Ranges n) (g : ℕ → ℕ) (few : open-count n g ≤ most-open) (p t : ℕ) (there : t < n.moves) where
+  pub one-taken : g t * n.take p t ≤ most-open * most-control-arc
+  one-taken = mul-le-mul (le_trans (le-sum n.moves g t there) few) (take-small n r p t)
+
+  pub taken-so-far : (free : ℕ) → free ≤ n.limit p → free + sum t (λ u. g u * n.take p u) + g t * n.take p t ≤ control-limit + most-open * most-control-arc
+  taken-so-far free l =
+      let all = sum_below n.moves most-control-arc g (λ u. n.take p u) (λ u h. take-small n r p u) in
+      let part : sum (suc t) (λ u. g u * n.take p u) ≤ sum n.moves (λ u. g u * n.take p u) = sum-part (suc t) n.moves (λ u. g u * n.take p u) (omega arith) in
+      omega (arith, all, part, limit-small n r p)

@@ -24,6 +24,13 @@ promise-after l after cs e p rs before built b =
       upheld = subst (λ (x : Ledger). Upheld x (book-of p rs (before ++ cs) (acceptances (answers (new-ledger p) (before ++ cs))))) (sym reached) (promise p rs built (before ++ cs));
     }
 
+-- the promise, of a ledger that has just been opened
+pub promise-new : (p : Pile) (l : Ledger) → l ≡ new-ledger p → (rs : List InForce) → Built p rs → (cs : List Call) → Promised p rs cs (run l cs)
+promise-new p l e rs built cs = record {
+  reached = ap (λ x. run x cs) e;
+  upheld = subst (λ (x : Ledger). Upheld (run x cs) (book-of p rs cs (acceptances (answers (new-ledger p) cs)))) (sym e) (promise p rs built cs);
+}
+
 -- one call, by the value that it is
 pub made : (l after : Ledger) (k m : Call) → k ≡ m → after ≡ next l m → after ≡ next l k
 made l after k m e a = a ∙ ap (next l) (sym e)

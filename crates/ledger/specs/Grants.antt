@@ -2,8 +2,8 @@
 --   opened       open(t), the open grants of each move, from the table of counts
 --   Tallied      the counts and sums belong together over the net: how many grants are open in all, and what they may yet bring to
 --                each place
-use Rattle.std.specs.Prelude.{◌≡◌, ℕ, ◌<◌, ◌≤◌, List, length, slice_index}
-use Rattle.model.specs.Sizes.{most-open, most-moves, most-all-places}
+use Rattle.std.specs.Prelude.{◌≡◌, ℕ, ◌<◌, ◌≤◌, List, slice_index}
+use Rattle.model.specs.Sizes.{most-open}
 use Rattle.model.specs.Net.{Net}
 use Rattle.model.specs.Ledger.{open-count, reserved}
 use Rattle.ledger.specs.declared.grants.Grants.{Grants}

@@ -1,7 +1,9 @@
 // A ledger on any pile.
-ghost use Rattle.std.specs.Prelude.{◌≡◌, ℕ};
-ghost use Rattle.model.specs.Ledger.{new-ledger, free-under};
-ghost use Rattle.ledger.specs.Grants.{Tallied};
+ghost use Rattle.std.specs.Prelude.{◌≡◌, ℕ, List};
+ghost use Rattle.model.specs.Ledger.{Call, new-ledger, net-under, free-under, marking, run};
+ghost use Rattle.model.specs.Layer.{InForce, Built};
+ghost use Rattle.ledger.specs.Grants.{Tallied, opened};
+ghost use Rattle.ledger.specs.Calls.{Promised};
 ghost use Rattle.ledger.specs.Ledgers.{ledger-of};
 
 use crate::grants::Grants;
@@ -16,9 +18,10 @@ pub struct Ledger<P: Plant> {
 }
 
 impl<P: Plant> Ledger<P> {
-    // A ledger on the pile, with no open grants.
+    // A ledger on the pile, with no open grants. If the pile is one that can be built, the promise holds after every list of calls.
     pub fn new(pile: P) -> Self
-        ensures { ledger-of (P.Plant.pile result.pile) result.grants ≡ new-ledger (P.Plant.pile pile) }
+        ensures new { ledger-of (P.Plant.pile result.pile) result.grants ≡ new-ledger (P.Plant.pile pile) }
+        ensures promise { (rs : List InForce) → Built (P.Plant.pile pile) rs → (cs : List Call) → Promised (P.Plant.pile pile) rs cs (run (ledger-of (P.Plant.pile result.pile) result.grants) cs) }
     {
         Ledger {
             pile,
@@ -31,6 +34,17 @@ impl<P: Plant> Ledger<P> {
         ensures { result ≡ (ledger-of (P.Plant.pile self.now.pile) self.now.grants).opened t }
     {
         self.grants.of(t)
+    }
+
+    // The marking of the place `p`: its free tokens, and those that open grants have taken from it.
+    pub fn marking(&self, p: usize) -> u32
+        ensures { result ≡ marking (net-under (ledger-of (P.Plant.pile self.now.pile) self.now.grants)) (free-under (ledger-of (P.Plant.pile self.now.pile) self.now.grants)) (opened self.now.grants.counts) p }
+    {
+        let mut sum = self.pile.free(p);
+        'moves: for t in 0..self.pile.moves() {
+            sum += self.grants.of(t) * self.pile.take(p, t);
+        }
+        sum
     }
 
     // The free tokens of the place `p`.

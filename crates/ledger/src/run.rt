@@ -30,7 +30,11 @@ impl<P: Plant> Ledger<Board<P>> {
     }
 
     // Makes the calls one after the other, and tells what each answered. If there is no memory for the answers, none is made.
-    pub fn run(&mut self, alloc: Global, calls: &[Call]) -> Result<Vec<Result<(), Fault>>, AllocError>
+    pub fn run(
+        &mut self,
+        alloc: Global,
+        calls: &[Call],
+    ) -> Result<Vec<Result<(), Fault>>, AllocError>
         ensures answers { IfOk result (λ v. v.items ≡ answers (ledger-of (⟦<Board<P> as Plant>⟧.pile self.old.pile) self.old.grants) (calls-of calls.now)) }
         ensures after { IfOk result (λ v. ledger-of (⟦<Board<P> as Plant>⟧.pile self.new.pile) self.new.grants ≡ model.run (ledger-of (⟦<Board<P> as Plant>⟧.pile self.old.pile) self.old.grants) (calls-of calls.now)) }
         ensures promise { IfOk result (λ v. (p : Pile) (rs : List InForce) (before : List model.Call) → Built p rs → ledger-of (⟦<Board<P> as Plant>⟧.pile self.old.pile) self.old.grants ≡ model.run (new-ledger p) before → Promised p rs (before ++ calls-of calls.now) (ledger-of (⟦<Board<P> as Plant>⟧.pile self.new.pile) self.new.grants)) }

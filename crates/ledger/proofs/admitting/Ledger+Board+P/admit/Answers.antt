@@ -1,5 +1,4 @@
-use Rattle.std.proofs.Common.{◌≡◌, ap}
-use Rattle.model.specs.Layer.{Pile}
+use Rattle.std.proofs.Common.{ap}
 use Rattle.layers.specs.Piles.{board-pile}
 use Rattle.rules.specs.Rules.{rule-of}
 use Rattle.ledger.proofs.Admitted.{admit-refused, admit-after, admit-tallied}

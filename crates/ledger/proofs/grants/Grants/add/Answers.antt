@@ -1,8 +1,8 @@
-use Rattle.std.proofs.Common.{rules, ◌≡◌, ℕ, ◌+◌, ◌<◌, ◌≤◌, max, slice_index, List, length, ap, ◌∙◌, arith}
+use Rattle.std.proofs.Common.{rules, ◌≡◌, ℕ, ◌+◌, ◌<◌, List, length, ap, ◌∙◌, arith}
 use Rattle.model.specs.Net.{Net, Ranges}
 use Rattle.model.specs.Ledger.{plus_one}
 use Rattle.model.proofs.Sums.{le-sum}
-use Rattle.ledger.specs.Grants.{opened, Tallied}
+use Rattle.ledger.specs.Grants.{opened}
 use Rattle.ledger.proofs.Counting.{brought-small, reserved-small, count-raised, tally-more}
 use Rattle.ledger.proofs.grants.Grants.add.Goals as goal
 

@@ -1,8 +1,8 @@
-use Rattle.std.proofs.Common.{rules, ◌≡◌, ℕ, ◌-◌, ◌<◌, ◌≤◌, max, List, length, ap, ◌∙◌, arith}
+use Rattle.std.proofs.Common.{rules, ℕ, ◌-◌, ◌<◌, List, length, ap, ◌∙◌, arith}
 use Rattle.model.specs.Net.{Net}
 use Rattle.model.specs.Ledger.{minus_one}
 use Rattle.model.proofs.Sums.{le-sum}
-use Rattle.ledger.specs.Grants.{opened, Tallied}
+use Rattle.ledger.specs.Grants.{opened}
 use Rattle.ledger.proofs.Counting.{brought-held, count-lowered, tally-fewer}
 use Rattle.ledger.proofs.grants.Grants.remove.Goals as goal
 

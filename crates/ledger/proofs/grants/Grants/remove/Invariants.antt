@@ -1,4 +1,4 @@
-use Rattle.std.proofs.Common.{◌≡◌, ℕ, ◌+◌, ◌-◌, ◌<◌, ◌≤◌, max, slice_index}
+use Rattle.std.proofs.Common.{◌≡◌, ℕ, ◌-◌, ◌<◌, ◌≤◌, max, slice_index}
 use Rattle.ledger.proofs.grants.Grants.remove.Given as goal
 
 abbrev pub invariant-places : goal.invariant-places

@@ -1,4 +1,4 @@
-use Rattle.std.proofs.Common.{◌≡◌, Ok, sym, ap, ◌∙◌}
+use Rattle.std.proofs.Common.{ap, ◌∙◌}
 use Rattle.model.specs.Layer.{pile-finished}
 use Rattle.model.specs.Ledger.{report}
 use Rattle.model.proofs.Checks.{err-not-ok}

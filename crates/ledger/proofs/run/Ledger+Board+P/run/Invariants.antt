@@ -1,4 +1,4 @@
-use Rattle.std.proofs.Common.{◌≡◌, ◌+◌, ◌≤◌, length, take, drop, ◌++◌, vec_len, vec_capacity}
+use Rattle.std.proofs.Common.{◌≡◌, ◌≤◌, length, take, vec_len, vec_capacity}
 use Rattle.model.specs.Ledger.{run, answers}
 use Rattle.layers.specs.Piles.{board-pile}
 use Rattle.ledger.specs.Ledgers.{ledger-of}
