@@ -3,4 +3,4 @@ use Rattle.panel.proofs.Adding.{count-written}
 use Rattle.panel.proofs.print.put_count.Goals as goal
 
 pub returns : goal.returns
-returns c = count-written (vec_items c.args.out.now) (decimal c.args.n) c.in-ok-put.ensures c.in-ok-put-number.ensures
+returns c = count-written (vec_items c.args.out.now) (decimal c.args.n) c.in_ok-put.ensures c.in_ok-put_number.ensures

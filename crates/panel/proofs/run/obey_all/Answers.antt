@@ -10,7 +10,7 @@ pub orders-preserved : goal.orders-preserved
 orders-preserved g c =
     let b = line-ends c.args.orders.now c.orders.start c.until-end.result c.requires.1 c.orders-test.true c.until-end.ensures.value in (
       answered-one (net-of c.args.text.now c.args.net.now) (g.P.Plant.tokens c.args.plant.now) c.args.orders.now (vec_items c.args.out.now ++ answers (net-of c.args.text.now c.args.net.now) (g.P.Plant.tokens c.args.plant.now) (lines c.args.orders.now))
-          c.orders.start c.until-end.result _ _ c.orders.invariant.0 c.until-end.ensures.value b.1 c.in-ok-obey.ensures,
+          c.orders.start c.until-end.result _ _ c.orders.invariant.0 c.until-end.ensures.value b.1 c.in_ok-obey.ensures,
       omega (arith, b.1),
     )
 
