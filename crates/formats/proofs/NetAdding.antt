@@ -1,6 +1,6 @@
 -- One more place, move or arc: the text stays right just where the line fits, and has one more row.
 use Rattle.std.proofs.Common.{◌≡◌, ℕ, ◌<◌, List, [], ◌∷◌, ◌++◌, map, length, sym, refl, ap, ◌∙◌, subst, inl, inr, append_assoc, append-nil, arith}
-use Rattle.std.specs.List.{AllByRecursion as All}
+use Rattle.std.specs.List.{AllByRecursion}
 use Rattle.std.proofs.lemmas.List.{map_push, length_push}
 use Rattle.std.proofs.ByRecursion.{All-push}
 use Rattle.formats.specs.declared.kind.Kind.{Kind}
@@ -9,7 +9,7 @@ use Rattle.formats.specs.Words.{IsName, Apart, New}
 use Rattle.formats.specs.NetText.{Place, Move, Arc, NetText, net, names, place-names, move-names, plant-row, place-row, move_row, arc-row, rows, Filled, Joins, SamePair, Right}
 
 -- ---- one more element
-pub all_pop : {A : Type 0} (P : A → Type 0) (xs : List A) (y : A) → All P (xs ++ (y ∷ [])) → All P xs × P y
+pub all_pop : {A : Type 0} (P : A → Type 0) (xs : List A) (y : A) → AllByRecursion P (xs ++ (y ∷ [])) → AllByRecursion P xs × P y
 all_pop P [] y h = (tt, h.0)
 all_pop P (x ∷ xs) y h = let r = all_pop P xs y h.1 in ((h.0, r.0), r.1)
 
@@ -24,7 +24,7 @@ apart-pop R (x ∷ xs) y h =
     let r = apart-pop R xs y h.1 in
     ((a.0, r.0), (a.1, r.1))
 
-pub all_split : {A : Type 0} (P : A → Type 0) (xs ys : List A) → All P (xs ++ ys) → All P xs × All P ys
+pub all_split : {A : Type 0} (P : A → Type 0) (xs ys : List A) → AllByRecursion P (xs ++ ys) → AllByRecursion P xs × AllByRecursion P ys
 all_split P [] ys h = (tt, h)
 all_split P (x ∷ xs) ys h = let r = all_split P xs ys h.1 in ((h.0, r.0), r.1)
 
@@ -64,7 +64,7 @@ pub place_in : (k : Kind) (ps : List Place) (p : Place) → Right (net k ps [] [
 place_in k ps p r f = record {
   few-places = omega (arith, length_push ps p, f.room);
   few-moves = r.few-moves;
-  named = subst (All IsName) (sym (place-names-push ps p)) (All-push IsName (names (net k ps [] [])) p.name r.named f.name-ok);
+  named = subst (AllByRecursion IsName) (sym (place-names-push ps p)) (All-push IsName (names (net k ps [] [])) p.name r.named f.name-ok);
   different = subst (Apart (λ m n. m ≡ n)) (sym (place-names-push ps p)) (apart-push (λ m n. m ≡ n) (names (net k ps [] [])) p.name r.different f.name_new);
   filled = All-push Filled ps p r.filled f.fill;
   joining = tt;
@@ -74,7 +74,7 @@ place_in k ps p r f = record {
 
 pub place_out : (k : Kind) (ps : List Place) (p : Place) → Right (net k (ps ++ (p ∷ [])) [] []) → Right (net k ps [] []) × FitsPlace (net k ps [] []) p
 place_out k ps p r =
-    let a = all_pop IsName (names (net k ps [] [])) p.name (subst (All IsName) (place-names-push ps p) r.named) in
+    let a = all_pop IsName (names (net k ps [] [])) p.name (subst (AllByRecursion IsName) (place-names-push ps p) r.named) in
     let d = apart-pop (λ m n. m ≡ n) (names (net k ps [] [])) p.name (subst (Apart (λ m n. m ≡ n)) (place-names-push ps p) r.different) in
     let f = all_pop Filled ps p r.filled in
     let l : length ps < 32 = omega (arith, length_push ps p, r.few-places) in (
@@ -94,7 +94,7 @@ move_in k ps ms m r f =
     record {
       few-places = r.few-places;
       few-moves = omega (arith, length_push ms m, f.room);
-      named = subst (All IsName) (sym (move-names-push ns ms m)) (All-push IsName (names (net k ps ms [])) m.name r.named f.name-ok);
+      named = subst (AllByRecursion IsName) (sym (move-names-push ns ms m)) (All-push IsName (names (net k ps ms [])) m.name r.named f.name-ok);
       different = subst (Apart (λ i j. i ≡ j)) (sym (move-names-push ns ms m)) (apart-push (λ i j. i ≡ j) (names (net k ps ms [])) m.name r.different f.name_new);
       filled = r.filled;
       joining = tt;
@@ -105,7 +105,7 @@ move_in k ps ms m r f =
 pub move-out : (k : Kind) (ps : List Place) (ms : List Move) (m : Move) → Right (net k ps (ms ++ (m ∷ [])) []) → Right (net k ps ms []) × FitsMove (net k ps ms []) m
 move-out k ps ms m r =
     let ns = map (λ (q : Place). q.name) ps in
-    let a = all_pop IsName (names (net k ps ms [])) m.name (subst (All IsName) (move-names-push ns ms m) r.named) in
+    let a = all_pop IsName (names (net k ps ms [])) m.name (subst (AllByRecursion IsName) (move-names-push ns ms m) r.named) in
     let d = apart-pop (λ i j. i ≡ j) (names (net k ps ms [])) m.name (subst (Apart (λ i j. i ≡ j)) (move-names-push ns ms m) r.different) in
     let l : length ms < 32 = omega (arith, length_push ms m, r.few-moves) in (
       record { few-places = r.few-places; few-moves = omega arith; named = a.0; different = d.0; filled = r.filled; joining = tt; once = tt; plain = inr refl },

@@ -1,7 +1,7 @@
 -- The text that is written for a right net is read back, line by line; and the laws of the net text.
 use Rattle.std.proofs.Common.{◌≡◌, ℕ, ◌^◌, ◌<◌, Bool, true, false, ◌⊎◌, List, [], ◌∷◌, ◌++◌, map, length, get_or, codes, decimal, Option, sym, refl, ap, ap₂, subst₂, inl, inr, arith}
 use lib.ListN.{length-map}
-use Rattle.std.specs.List.{AllByRecursion as All}
+use Rattle.std.specs.List.{AllByRecursion}
 use Rattle.std.specs.Str.{bytes_eq}
 use Rattle.std.proofs.ByRecursion.{All-get_or}
 use Rattle.formats.specs.declared.kind.Kind.{Kind}
@@ -44,7 +44,7 @@ place-traced k ps p f t =
     t
 
 -- ---- moves
-letter-kept : (b : Bool) → (bytes_eq (letter-of b) (codes "c") ≡ b) × (((letter-of b ≡ codes "c") ⊎ (letter-of b ≡ codes "u")) × All Shown (letter-of b))
+letter-kept : (b : Bool) → (bytes_eq (letter-of b) (codes "c") ≡ b) × (((letter-of b ≡ codes "c") ⊎ (letter-of b ≡ codes "u")) × AllByRecursion Shown (letter-of b))
 letter-kept true = (refl, (inl refl, word-shown (codes "c") refl))
 letter-kept false = (refl, (inr refl, word-shown (codes "u") refl))
 
@@ -62,8 +62,8 @@ move-traced k ps ms m f t =
 found-known : (ns : List (List ℕ)) (i : ℕ) → i < length ns → Known ns (get_or ns i [])
 found-known ns i l = (i, l, refl)
 
-pair-moved : (xs : List Arc) (a : Arc) (i j : ℕ) → a.place ≡ i → a.move ≡ j → All (λ (b : Arc). (b.place ≡ a.place) × (b.move ≡ a.move) → ⊥) xs → All (λ (b : Arc). (b.place ≡ i) × (b.move ≡ j) → ⊥) xs
-pair-moved xs a i j e q h = subst₂ (λ (u v : ℕ). All (λ (b : Arc). (b.place ≡ u) × (b.move ≡ v) → ⊥) xs) e q h
+pair-moved : (xs : List Arc) (a : Arc) (i j : ℕ) → a.place ≡ i → a.move ≡ j → AllByRecursion (λ (b : Arc). (b.place ≡ a.place) × (b.move ≡ a.move) → ⊥) xs → AllByRecursion (λ (b : Arc). (b.place ≡ i) × (b.move ≡ j) → ⊥) xs
+pair-moved xs a i j e q h = subst₂ (λ (u v : ℕ). AllByRecursion (λ (b : Arc). (b.place ≡ u) × (b.move ≡ v) → ⊥) xs) e q h
 
 arc_value : (i j t g : ℕ) (a : Arc) → i ≡ a.place → j ≡ a.move → t ≡ a.take → g ≡ a.give → ◌≡◌ {A = Arc} (record { place = i; move = j; take = t; give = g }) a
 arc_value i j t g a e1 e2 e3 e4 = λ z. record { place = e1 z; move = e2 z; take = e3 z; give = e4 z }

@@ -1,7 +1,7 @@
 -- The laws of the rules text.
 use Rattle.std.proofs.Common.{◌≡◌, ℕ, zero, suc, ◌+◌, ◌^◌, ◌<◌, ◌≤◌, Bool, true, false, cond, ◌&&◌, eqb, leb, ◌⊎◌, List, [], ◌∷◌, ◌++◌, map, length, ℤ, pos, negsuc, neg_ℤ, nat_abs, Some, None, codes, decimal, Decides, Option, sym, refl, ap, ◌∙◌, subst, ap₂, inl, inr, arith}
 use Rattle.std.specs.Fmt.{signed_decimal}
-use Rattle.std.specs.List.{AllByRecursion as All}
+use Rattle.std.specs.List.{AllByRecursion}
 use Rattle.std.specs.Str.{bytes_eq, all_ascii_digits}
 use Rattle.std.proofs.lemmas.List.{map_push, length_push}
 use Rattle.std.proofs.ByRecursion.{All-push, All-append}
@@ -66,7 +66,7 @@ d-bound f = (
   λ h. subst (λ (g : List ℕ). is_bound g ≡ true) (sym h.2) (written-bound h.0 h.1).0,
 )
 
-bound-shown : (z : ℤ) → nat_abs z < 10 ^ 6 → All Shown (signed_decimal z)
+bound-shown : (z : ℤ) → nat_abs z < 10 ^ 6 → AllByRecursion Shown (signed_decimal z)
 bound-shown (pos n) h = decimal-shown n (omega arith)
 bound-shown (negsuc n) h = ((omega arith, omega arith), decimal-shown (suc n) (omega arith))
 
@@ -126,7 +126,7 @@ line-in used ps at n s b word h =
 line_same : (n : List ℕ) (qs : List Part) (z : ℤ) (r : RuleLine) → n ≡ r.name → qs ≡ r.sum → z ≡ r.bound → ◌≡◌ {A = RuleLine} (record { name = n; sum = qs; bound = z }) r
 line_same n qs z r e1 e2 e3 = λ i. record { name = e1 i; sum = e2 i; bound = e3 i }
 
-module _ (ps : List (List ℕ)) (named : All IsName ps) (apart : Apart (λ m n. m ≡ n) ps) where
+module _ (ps : List (List ℕ)) (named : AllByRecursion IsName ps) (apart : Apart (λ m n. m ≡ n) ps) where
   line-out : (used : List (List ℕ)) (at : ℕ) (r : RuleLine) → RightLine used ps r
       → Keeps (line-clauses used ps at r.name (sum-written ps r.sum) (signed_decimal r.bound)) × (line_of ps r.name (sum-written ps r.sum) (signed_decimal r.bound) ≡ r)
   line-out used at r h =
@@ -138,7 +138,7 @@ module _ (ps : List (List ℕ)) (named : All IsName ps) (apart : Apart (λ m n. 
         line_same r.name (sum_of ps (terms s)) (bound_of (signed_decimal r.bound)) r refl f.1 w.1,
       )
 
-  line_clean : (used : List (List ℕ)) (word : List ℕ) (r : RuleLine) → All Shown word → RightLine used ps r → Clean (line_row ps word r)
+  line_clean : (used : List (List ℕ)) (word : List ℕ) (r : RuleLine) → AllByRecursion Shown word → RightLine used ps r → Clean (line_row ps word r)
   line_clean used word r c h = (c, (name-shown r.name h.0, (sum-shown ps named apart r.sum h.2.1, (bound-shown r.bound h.3, tt))))
 
 -- ---- one more rule
@@ -203,7 +203,7 @@ advance-line taken ps s at fs r h =
       )
     ]
 
-module _ (taken ps : List (List ℕ)) (named : All IsName ps) (apart : Apart (λ m n. m ≡ n) ps) where
+module _ (taken ps : List (List ℕ)) (named : AllByRecursion IsName ps) (apart : Apart (λ m n. m ≡ n) ps) where
   opened-traced : (r : RuleLine) → RightLine taken ps r → Traced (rules-reader taken ps) (rules-meaning taken ps) (opened r)
   opened-traced r h =
       let o = line-out ps named apart taken 6 r h in

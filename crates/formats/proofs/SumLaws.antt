@@ -1,7 +1,7 @@
 -- The laws of sums.
 use Rattle.std.proofs.Common.{◌≡◌, ℕ, ◌+◌, ◌<◌, ◌≤◌, Bool, true, false, cond, eqb, List, [], ◌∷◌, ◌++◌, map, length, get_or, ℤ, pos, ◌+ℤ◌, nat_abs, Some, None, Ok, Err, Option, sym, refl, ap, ◌∙◌, subst, ap₂, append_assoc, append-nil, arith}
 use borrow.Author.Differences.{ints}
-use Rattle.std.specs.List.{AllByRecursion as All}
+use Rattle.std.specs.List.{AllByRecursion}
 use Rattle.std.proofs.ByRecursion.{All-get_or, All-append}
 use Rattle.std.proofs.lemmas.Bool.{cond-false, or_parts, eqb-true}
 use Rattle.model.specs.declared.refusal.Refusal.{Refusal}
@@ -76,7 +76,7 @@ field_in ns at f h =
 abbrev pieces_of : List (List ℕ) → List Part → List Piece
 pieces_of ns qs = map (λ (q : Part). piece q.minus (part_bytes q.number (get_or ns q.place []))) qs
 
-module _ (ns : List (List ℕ)) (named : All IsName ns) (apart : Apart (λ m n. m ≡ n) ns) where
+module _ (ns : List (List ℕ)) (named : AllByRecursion IsName ns) (apart : Apart (λ m n. m ≡ n) ns) where
   sum-out : (qs : List Part) (at : ℕ) (done : List Part) → Running ns done qs → Keeps (sum-clauses ns at done (pieces_of ns qs)) × (sum_of ns (pieces_of ns qs) ≡ qs)
   sum-out [] at done r = (tt, refl)
   sum-out (q ∷ qs) at done r =
@@ -88,7 +88,7 @@ module _ (ns : List (List ℕ)) (named : All IsName ns) (apart : Apart (λ m n. 
         ap₂ (λ (u : Part) (v : List Part). u ∷ v) o.1 w.1,
       )
 
-  unsigned-all : (qs : List Part) (done : List Part) → Running ns done qs → All (λ (p : Piece). Unsigned p.bytes) (pieces_of ns qs)
+  unsigned-all : (qs : List Part) (done : List Part) → Running ns done qs → AllByRecursion (λ (p : Piece). Unsigned p.bytes) (pieces_of ns qs)
   unsigned-all [] done r = tt
   unsigned-all (q ∷ qs) done r = (part-unsigned q.number (get_or ns q.place []) (All-get_or IsName ns q.place [] r.0 named) r.1, unsigned-all qs (done ++ (q ∷ [])) r.3)
 
@@ -127,7 +127,7 @@ module _ (ns : List (List ℕ)) (named : All IsName ns) (apart : Apart (λ m n. 
   sign-shown true = (omega arith, omega arith)
   sign-shown false = (omega arith, omega arith)
 
-  more-shown : (qs : List Part) (done : List Part) → Running ns done qs → All Shown (more-written ns qs)
+  more-shown : (qs : List Part) (done : List Part) → Running ns done qs → AllByRecursion Shown (more-written ns qs)
   more-shown [] done r = tt
   more-shown (q ∷ qs) done r = (
     sign-shown q.minus,
@@ -135,11 +135,11 @@ module _ (ns : List (List ℕ)) (named : All IsName ns) (apart : Apart (λ m n. 
         (part-shown q.number (get_or ns q.place []) (All-get_or IsName ns q.place [] r.0 named) r.1) (more-shown qs (done ++ (q ∷ [])) r.3),
   )
 
-  lead-shown : (m : Bool) → All Shown (lead m)
+  lead-shown : (m : Bool) → AllByRecursion Shown (lead m)
   lead-shown true = ((omega arith, omega arith), tt)
   lead-shown false = tt
 
-  pub sum-shown : (qs : List Part) → Running ns [] qs → All Shown (sum-written ns qs)
+  pub sum-shown : (qs : List Part) → Running ns [] qs → AllByRecursion Shown (sum-written ns qs)
   sum-shown [] r = tt
   sum-shown (q ∷ qs) r = All-append Shown (lead q.minus) (part_bytes q.number (get_or ns q.place []) ++ more-written ns qs) (lead-shown q.minus) (more-shown (q ∷ qs) [] r).1
 

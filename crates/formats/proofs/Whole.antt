@@ -1,6 +1,6 @@
 -- The laws of texts of lines, from the laws of their lines.
 use Rattle.std.proofs.Common.{◌≡◌, ℕ, ◌+◌, ◌≤◌, Bool, true, false, cond, ◌&&◌, eqb, ltb, leb, ◌⊎◌, List, [], ◌∷◌, ◌++◌, map, length, Some, None, Ok, Err, Decides, Option, Result, sym, refl, ap, ◌∙◌, subst, ap₂, inl, inr, append_assoc, append-nil, arith, length-append}
-use Rattle.std.specs.List.{AllByRecursion as All}
+use Rattle.std.specs.List.{AllByRecursion}
 use Rattle.std.proofs.lemmas.List.{map_push, length_push}
 use Rattle.std.proofs.ByRecursion.{All-push}
 use Rattle.std.proofs.lemmas.Bool.{cond-true, cond-false}
@@ -22,16 +22,16 @@ d-text bs =
     (d-and (ltb 0 (length bs)) (leb (length bs) 16384 && eqb (last bs) 10) (d-ltb 0 (length bs)) (d-and (leb (length bs) 16384) (eqb (last bs) 10) (d-leb (length bs) 16384) (d-eqb (last bs) 10)))
     (λ h. (h.0, h.1.0, h.1.1)) (λ h. (h.0, (h.1, h.2)))
 
-pub bytes-fine : (k i : ℕ) (bs : List ℕ) → bad-byte k i bs ≡ None → All Allowed bs
+pub bytes-fine : (k i : ℕ) (bs : List ℕ) → bad-byte k i bs ≡ None → AllByRecursion Allowed bs
 bytes-fine k i [] e = tt
 bytes-fine k i (b ∷ bs) e = go (is-allowed b) refl e (λ q. bytes-fine (cond (eqb b 10) (k + 1) k) (i + 1) bs q)
   where
     go : (t : Bool) → is-allowed b ≡ t → cond t (bad-byte (cond (eqb b 10) (k + 1) k) (i + 1) bs) (Some (fault Byte k i)) ≡ None
-        → (bad-byte (cond (eqb b 10) (k + 1) k) (i + 1) bs ≡ None → All Allowed bs) → All Allowed (b ∷ bs)
+        → (bad-byte (cond (eqb b 10) (k + 1) k) (i + 1) bs ≡ None → AllByRecursion Allowed bs) → AllByRecursion Allowed (b ∷ bs)
     go true p q r = ((d-allowed b).0 p, r q)
     go false p q r = let z : ◌≡◌ {A = ℕ} 0 1 = cc in absurd (omega arith)
 
-pub fine-bytes : (k i : ℕ) (bs : List ℕ) → All Allowed bs → bad-byte k i bs ≡ None
+pub fine-bytes : (k i : ℕ) (bs : List ℕ) → AllByRecursion Allowed bs → bad-byte k i bs ≡ None
 fine-bytes k i [] h = refl
 fine-bytes k i (b ∷ bs) h = cond-true _ (bad-byte (cond (eqb b 10) (k + 1) k) (i + 1) bs) (Some (fault Byte k i)) ((d-allowed b).1 h.0) ∙ fine-bytes (cond (eqb b 10) (k + 1) k) (i + 1) bs h.1
 
@@ -41,7 +41,7 @@ pub record FirstBad (k i : ℕ) (bs : List ℕ) (f : TextFault) : Type 0 where
   pub bad : ℕ
   pub back : List ℕ
   pub splits : bs ≡ front ++ (bad ∷ back)
-  pub good : All Allowed front
+  pub good : AllByRecursion Allowed front
   pub wrong : Allowed bad → ⊥
   pub told : f ≡ fault Byte (k + newlines front) (i + length front)
 
@@ -81,7 +81,7 @@ bytes-bad k i (b ∷ bs) f e = go (is-allowed b) refl e (λ q. bytes-bad (cond (
           told = sym same ∙ ap₂ (λ (u v : ℕ). fault Byte u v) (omega arith) (omega arith);
         }
 
-pub bad-bytes : (k i : ℕ) (front : List ℕ) (b : ℕ) (back : List ℕ) → All Allowed front → (Allowed b → ⊥) → bad-byte k i (front ++ (b ∷ back)) ≡ Some (fault Byte (k + newlines front) (i + length front))
+pub bad-bytes : (k i : ℕ) (front : List ℕ) (b : ℕ) (back : List ℕ) → AllByRecursion Allowed front → (Allowed b → ⊥) → bad-byte k i (front ++ (b ∷ back)) ≡ Some (fault Byte (k + newlines front) (i + length front))
 bad-bytes k i [] b back h n =
     cond-false _ (bad-byte (cond (eqb b 10) (k + 1) k) (i + 1) back) (Some (fault Byte k i)) (no (is-allowed b) refl)
     ∙ ap₂ (λ (u v : ℕ). Some (fault Byte u v)) (omega arith) (omega arith)
@@ -102,7 +102,7 @@ rows-so-far M (Some x) = M.rows x
 -- reading the lines of x leads to x, whatever follows
 pub record Traced {X : Type 0} (R : Reader X) (M : Meaning X) (x : X) : Type 0 where
   pub trace : (ls : List (List ℕ)) → read-lines R None 1 0 (map joined (M.rows x) ++ ls) ≡ read-lines R (Some x) (length (M.rows x) + 1) (length (written M x)) ls
-  pub clean : All Clean (M.rows x)
+  pub clean : AllByRecursion Clean (M.rows x)
 
 pub record Lawful {X : Type 0} (R : Reader X) (M : Meaning X) : Type 0 where
   -- the checks are those of the clauses
@@ -144,7 +144,7 @@ module _ {X : Type 0} (R : Reader X) (M : Meaning X) (agree : (s : Option X) (at
         ∙ step-over None 1 0 (f ∷ fs) ls (joined (f ∷ fs)) y (fields-joined f fs (not-tab (f ∷ fs) c)) h a
         ∙ ap₂ (λ (i j : ℕ). read-lines R (Some y) i j ls) (omega (arith, ap length e))
         (omega (arith, ap length (written-rows M y ∙ ap (λ (z : List (List (List ℕ))). unlines (map joined z)) e), length-append (joined (f ∷ fs)) (10 ∷ [])));
-    clean = subst (All Clean) (sym e) (c, tt);
+    clean = subst (AllByRecursion Clean) (sym e) (c, tt);
   }
 
   pub extend : (x y : X) (f : List ℕ) (fs : List (List ℕ)) → M.rows y ≡ M.rows x ++ ((f ∷ fs) ∷ []) → Clean (f ∷ fs) → Keeps (M.clauses (Some x) (length (written M x)) (f ∷ fs)) → R.after (Some x) (f ∷ fs) ≡ y → Traced R M x → Traced R M y
@@ -156,7 +156,7 @@ module _ {X : Type 0} (R : Reader X) (M : Meaning X) (agree : (s : Option X) (at
         ∙ t.trace (joined (f ∷ fs) ∷ ls)
         ∙ step-over (Some x) (length (M.rows x) + 1) (length (written M x)) (f ∷ fs) ls (joined (f ∷ fs)) y (fields-joined f fs (not-tab (f ∷ fs) c)) h a
         ∙ ap₂ (λ (i j : ℕ). read-lines R (Some y) i j ls) (omega (arith, ap length e, length_push (M.rows x) (f ∷ fs))) (sym (written-length M x y (f ∷ fs) e));
-    clean = subst (All Clean) (sym e) (All-push Clean (M.rows x) (f ∷ fs) t.clean c);
+    clean = subst (AllByRecursion Clean) (sym e) (All-push Clean (M.rows x) (f ∷ fs) t.clean c);
   }
 
 -- ---- induction from the end of a list
@@ -200,7 +200,7 @@ module _ {X : Type 0} (R : Reader X) (M : Meaning X) (law : Lawful R M) where
   more-lines : (s : Option X) (y : X) (l : List ℕ) → M.rows y ≡ rows-so-far M s ++ (fields l ∷ []) → length (M.rows y) ≡ lines-so-far M s + 1
   more-lines s y l e = ap length e ∙ length_push (rows-so-far M s) (fields l) ∙ ap (λ (n : ℕ). n + 1) (sym (so-far-rows s).1)
 
-  module _ (bs : List ℕ) (text : IsText bs) (allowed : All Allowed bs) where
+  module _ (bs : List ℕ) (text : IsText bs) (allowed : AllByRecursion Allowed bs) where
     at-end : (x : X) → M.Right x → bs ≡ written M x → (t : Bool) → R.is_whole x ≡ t → Outcome M bs (cond t (Ok x) (Err (fault NotOfKind 0 (length (written M x)))))
     at-end x r e true w = (r, (law.d-whole x).0 w, e, text.1)
     at-end x r e false w = no_end text allowed x r e (d-fails (R.is_whole x) (law.d-whole x) w) (ap (λ (z : List ℕ). fault NotOfKind 0 (length z)) (sym e))
@@ -209,7 +209,7 @@ module _ {X : Type 0} (R : Reader X) (M : Meaning X) (law : Lawful R M) where
     finish None r e = absurd (omega (arith, text.0, ap length e))
     finish (Some x) r e = at-end x r (e ∙ append-nil (written M x)) (R.is_whole x) refl
 
-    at-line : (s : Option X) (l : List ℕ) (ls : List (List ℕ)) (k at : ℕ) → RightSoFar M s → All (λ b. b ≡ 10 → ⊥) l → bs ≡ so_far M s ++ (l ++ (10 ∷ unlines ls)) → k ≡ lines-so-far M s + 1 → at ≡ length (so_far M s)
+    at-line : (s : Option X) (l : List ℕ) (ls : List (List ℕ)) (k at : ℕ) → RightSoFar M s → AllByRecursion (λ b. b ≡ 10 → ⊥) l → bs ≡ so_far M s ++ (l ++ (10 ∷ unlines ls)) → k ≡ lines-so-far M s + 1 → at ≡ length (so_far M s)
         → ((y : X) → M.Right y → k + 1 ≡ length (M.rows y) + 1 → at + length l + 1 ≡ length (written M y) → bs ≡ written M y ++ unlines ls → Outcome M bs (read-lines R (Some y) (k + 1) (at + length l + 1) ls))
         → (o : Option Check) → first-failed (R.checks s at (fields l)) ≡ o
         → Outcome M bs (unless o k (read-lines R (Some (R.after s (fields l))) (k + 1) (at + length l + 1) ls))
@@ -225,7 +225,7 @@ module _ {X : Type 0} (R : Reader X) (M : Meaning X) (law : Lawful R M) where
         (subst (λ (z : ℕ). Breaks (M.clauses s z (fields l)) d.refusal d.byte) ea (breaks (R.checks s at (fields l)) (M.clauses s at (fields l)) d (law.agree s at (fields l)) o))
         (ap (λ (z : ℕ). fault d.refusal z d.byte) ek)
 
-    walk : (ls : List (List ℕ)) (s : Option X) (k at : ℕ) → RightSoFar M s → All (All (λ b. b ≡ 10 → ⊥)) ls → bs ≡ so_far M s ++ unlines ls → k ≡ lines-so-far M s + 1 → at ≡ length (so_far M s) → Outcome M bs (read-lines R s k at ls)
+    walk : (ls : List (List ℕ)) (s : Option X) (k at : ℕ) → RightSoFar M s → AllByRecursion (AllByRecursion (λ b. b ≡ 10 → ⊥)) ls → bs ≡ so_far M s ++ unlines ls → k ≡ lines-so-far M s + 1 → at ≡ length (so_far M s) → Outcome M bs (read-lines R s k at ls)
     walk [] s k at r c e ek ea = subst (λ (z : ℕ). Outcome M bs (ended R s z)) (sym ea) (finish s r e)
     walk (l ∷ ls) s k at r c e ek ea =
         at-line s l ls k at r c.0 e ek ea (λ y ry ky ay ey. walk ls (Some y) (k + 1) (at + length l + 1) ry c.1 ey ky ay)
@@ -246,7 +246,7 @@ module _ {X : Type 0} (R : Reader X) (M : Meaning X) (law : Lawful R M) where
   told_text bs = told-go bs (is-text bs) refl
 
   -- ---- from the meaning to the answer
-  read_through : (bs : List ℕ) → IsText bs → All Allowed bs → read-text R bs ≡ read-lines R None 1 0 (lines bs)
+  read_through : (bs : List ℕ) → IsText bs → AllByRecursion Allowed bs → read-text R bs ≡ read-lines R None 1 0 (lines bs)
   unfolding read-text
   read_through bs t a =
       cond-true _ (unless-byte (bad-byte 1 0 bs) (read-lines R None 1 0 (lines bs))) (Err (fault Form 0 0)) ((d-text bs).1 t)
@@ -265,7 +265,7 @@ module _ {X : Type 0} (R : Reader X) (M : Meaning X) (law : Lawful R M) where
       let e : written M x ≡ unlines (joined s.0 ∷ map joined s.1) = written-rows M x ∙ ap (λ (z : List (List (List ℕ))). unlines (map joined z)) s.2 in
       (omega (arith, ap length e, length-append (joined s.0) (10 ∷ unlines (map joined s.1))), h, ap last e ∙ last-unlines (joined s.0) (map joined s.1))
 
-  written-allowed : (x : X) → M.Right x → All Allowed (written M x)
+  written-allowed : (x : X) → M.Right x → AllByRecursion Allowed (written M x)
   unfolding written
   written-allowed x r = unlines-allowed (M.rows x) (law.traced x r).clean
 
@@ -290,14 +290,14 @@ module _ {X : Type 0} (R : Reader X) (M : Meaning X) (law : Lawful R M) where
   unfolding read-text
   refuse-text bs n = cond-false _ (unless-byte (bad-byte 1 0 bs) (read-lines R None 1 0 (lines bs))) (Err (fault Form 0 0)) (false-from (is-text bs) (d-text bs).0 n)
 
-  refuse-byte : (bs : List ℕ) → IsText bs → (front : List ℕ) (b : ℕ) (back : List ℕ) → bs ≡ front ++ (b ∷ back) → All Allowed front → (Allowed b → ⊥) → read-text R bs ≡ Err (fault Byte (newlines front + 1) (length front))
+  refuse-byte : (bs : List ℕ) → IsText bs → (front : List ℕ) (b : ℕ) (back : List ℕ) → bs ≡ front ++ (b ∷ back) → AllByRecursion Allowed front → (Allowed b → ⊥) → read-text R bs ≡ Err (fault Byte (newlines front + 1) (length front))
   unfolding read-text
   refuse-byte bs t front b back s g w =
       cond-true _ (unless-byte (bad-byte 1 0 bs) (read-lines R None 1 0 (lines bs))) (Err (fault Form 0 0)) ((d-text bs).1 t)
       ∙ ap (λ (o : Option TextFault). unless-byte o (read-lines R None 1 0 (lines bs)))
       (ap (λ (z : List ℕ). bad-byte 1 0 z) s ∙ bad-bytes 1 0 front b back g w ∙ ap₂ (λ (u v : ℕ). Some (fault Byte u v)) (omega arith) (omega arith))
 
-  refuse-line : (bs : List ℕ) → IsText bs → All Allowed bs → (s : Option X) (l rest : List ℕ) → RightSoFar M s → bs ≡ so_far M s ++ (l ++ (10 ∷ rest)) → All (λ b. b ≡ 10 → ⊥) l
+  refuse-line : (bs : List ℕ) → IsText bs → AllByRecursion Allowed bs → (s : Option X) (l rest : List ℕ) → RightSoFar M s → bs ≡ so_far M s ++ (l ++ (10 ∷ rest)) → AllByRecursion (λ b. b ≡ 10 → ⊥) l
       → (c : Refusal) (i : ℕ) → Breaks (M.clauses s (length (so_far M s)) (fields l)) c i → read-text R bs ≡ Err (fault c (lines-so-far M s + 1) i)
   refuse-line bs t a s l rest r e n c i b =
       let k = lines-so-far M s + 1 in
@@ -308,7 +308,7 @@ module _ {X : Type 0} (R : Reader X) (M : Meaning X) (law : Lawful R M) where
       ∙ ap (λ (o : Option Check). unless o k (read-lines R (Some (R.after s (fields l))) (k + 1) (at + length l + 1) (lines rest))) d.1
       ∙ ap₂ (λ (u : Refusal) (v : ℕ). Err (fault u k v)) d.2 d.3
 
-  refuse-end : (bs : List ℕ) → IsText bs → All Allowed bs → (x : X) → M.Right x → bs ≡ written M x → (M.Complete x → ⊥) → read-text R bs ≡ Err (fault NotOfKind 0 (length bs))
+  refuse-end : (bs : List ℕ) → IsText bs → AllByRecursion Allowed bs → (x : X) → M.Right x → bs ≡ written M x → (M.Complete x → ⊥) → read-text R bs ≡ Err (fault NotOfKind 0 (length bs))
   refuse-end bs t a x r e n =
       read_through bs t a ∙ ap (λ (z : List ℕ). read-lines R None 1 0 (lines z)) e ∙ read-written x r
       ∙ cond-false (R.is_whole x) (Ok x) (Err (fault NotOfKind 0 (length (written M x)))) (false-from (R.is_whole x) (law.d-whole x).0 n)

@@ -2,7 +2,7 @@
 --   Shape            a line by its word and its count of fields, with its other fields as they stand
 --   clauses s at l   what is asked of the line l that starts at byte `at` after the text s (None before the first line), in order
 use Rattle.std.specs.Prelude.{◌≡◌, ℕ, ◌+◌, ◌<◌, ◌≤◌, cond, ◌⊎◌, List, [], ◌∷◌, length, Some, None, codes, Option}
-use Rattle.std.specs.List.{AllByRecursion as All}
+use Rattle.std.specs.List.{AllByRecursion}
 use Rattle.std.specs.Str.{bytes_eq}
 use Rattle.model.specs.Sizes.{most-places, most-moves, count-digits, arc-digits}
 use Rattle.formats.specs.declared.kind.Kind.{Kind}
@@ -51,7 +51,7 @@ move-clauses x at n k =
 
 -- no arc yet between that place and that move
 abbrev pub NewPair : List Arc → ℕ → ℕ → Type 0
-NewPair xs p m = All (λ (a : Arc). (a.place ≡ p) × (a.move ≡ m) → ⊥) xs
+NewPair xs p m = AllByRecursion (λ (a : Arc). (a.place ≡ p) × (a.move ≡ m) → ⊥) xs
 
 abbrev pub arc-clauses : NetText → ℕ → List ℕ → List ℕ → List ℕ → List ℕ → List Clause
 arc-clauses x at p m t g =

@@ -7,7 +7,7 @@
 --   Right x          x is right as far as it goes: every line fits those before it
 --   Complete x       x has what the end of a net text asks for
 use Rattle.std.specs.Prelude.{◌≡◌, ℕ, ◌+◌, ◌%◌, ◌^◌, ◌<◌, ◌≤◌, Bool, true, false, ◌⊎◌, List, [], ◌∷◌, ◌++◌, map, length, codes, decimal, slice_index_or}
-use Rattle.std.specs.List.{AllByRecursion as All}
+use Rattle.std.specs.List.{AllByRecursion}
 use Rattle.model.specs.Sizes.{most-places, most-moves, count-digits, arc-digits}
 use Rattle.formats.specs.declared.kind.Kind.{Kind}
 use Rattle.formats.specs.declared.kind.Kind.TheVariants.{Net, Bank, Line}
@@ -87,17 +87,17 @@ SamePair a b = (a.place ≡ b.place) × (a.move ≡ b.move)
 pub record Right (x : NetText) : Type 0 where
   pub few-places : length x.places ≤ most-places
   pub few-moves : length x.moves ≤ most-moves
-  pub named : All IsName (names x)
+  pub named : AllByRecursion IsName (names x)
   pub different : AllDifferent (names x)
-  pub filled : All Filled x.places
-  pub joining : All (Joins (length x.places) (length x.moves)) x.arcs
+  pub filled : AllByRecursion Filled x.places
+  pub joining : AllByRecursion (Joins (length x.places) (length x.moves)) x.arcs
   pub once : Apart SamePair x.arcs
   pub plain : (x.kind ≡ Net) ⊎ (x.arcs ≡ [])
 
 -- the counts and limits that a kind asks for
 abbrev pub Shaped : Kind → List Place → List Move → Type 0
 Shaped Net ps ms = Unit {0}
-Shaped Bank ps ms = (length ps % 4 ≡ 0) × (length ms ≡ length ps) × All (λ (p : Place). p.limit ≡ 1) ps
+Shaped Bank ps ms = (length ps % 4 ≡ 0) × (length ms ≡ length ps) × AllByRecursion (λ (p : Place). p.limit ≡ 1) ps
 Shaped Line ps ms = length ms ≡ length ps + 1
 
 -- what the end of the text asks for

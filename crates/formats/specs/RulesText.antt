@@ -7,7 +7,7 @@
 --   line-clauses     what is asked of the fields of a rule, the first of which starts at the byte `at`
 use Rattle.std.specs.Prelude.{◌≡◌, ℕ, ◌+◌, ◌^◌, ◌<◌, ◌≤◌, Bool, true, false, cond, ◌&&◌, List, [], ◌∷◌, ◌++◌, map, length, ℤ, pos, neg_ℤ, Some, None, codes, Option, Result, ◌==◌, nat_le, nat_lt, unsigned_abs}
 use Rattle.std.specs.Fmt.{signed_decimal}
-use Rattle.std.specs.List.{AllByRecursion as All}
+use Rattle.std.specs.List.{AllByRecursion}
 use Rattle.std.specs.Str.{bytes_eq}
 use Rattle.model.specs.Sizes.{most-rules, bound-digits}
 use Rattle.model.specs.declared.refusal.Refusal.TheVariants.{NoRecord, Field, NameTaken, TooMany}
@@ -44,7 +44,7 @@ RightLine taken ps r = IsName r.name × NewName taken r.name × ProperSum ps r.s
 
 pub record RightRules (taken ps : List (List ℕ)) (x : RulesText) : Type 0 where
   pub few : length x.others ≤ most-rules
-  pub each : All (RightLine taken ps) (all_lines x)
+  pub each : AllByRecursion (RightLine taken ps) (all_lines x)
   pub different : AllDifferent (rule-names x)
 
 -- ---- what is asked of each line

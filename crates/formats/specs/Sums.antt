@@ -9,7 +9,7 @@
 --                    digits; what is left after it
 --   read-sum         the sum of a field that starts at a byte, or the refusal and its byte
 use Rattle.std.specs.Prelude.{◌≡◌, ℕ, ◌+◌, ◌^◌, ◌<◌, ◌≤◌, min, Bool, true, false, cond, ◌&&◌, ◌||◌, ◌⊎◌, List, [], ◌∷◌, ◌++◌, map, length, take, drop, ℤ, pos, ◌+ℤ◌, neg_ℤ, Some, None, Ok, Err, decimal, Option, Result, ◌==◌, nat_le, slice_index, slice_index_or, unsigned_abs}
-use Rattle.std.specs.List.{prefix_len, AllByRecursion as All}
+use Rattle.std.specs.List.{prefix_len, AllByRecursion}
 use Rattle.model.specs.Sizes.{factor-digits, most-weight}
 use Rattle.model.specs.declared.refusal.Refusal.{Refusal}
 use Rattle.model.specs.declared.refusal.Refusal.TheVariants.{NameUnknown, Sum}
@@ -172,7 +172,7 @@ read-sum ns at f = unless-sum (first-failed (sum-checks ns (at + lead-length f) 
 -- ---- the laws, over names that are names and all differ
 -- a field is read as the sum qs just where qs is proper and the field is written so
 abbrev pub SumExact : Type 0
-SumExact = (ns : List (List ℕ)) (at : ℕ) (f : List ℕ) (qs : List Part) → All IsName ns → AllDifferent ns
+SumExact = (ns : List (List ℕ)) (at : ℕ) (f : List ℕ) (qs : List Part) → AllByRecursion IsName ns → AllDifferent ns
     → (read-sum ns at f ≡ Ok qs → ProperSum ns qs × (f ≡ sum-written ns qs)) × (ProperSum ns qs → f ≡ sum-written ns qs → read-sum ns at f ≡ Ok qs)
 
 -- a field is refused just where a clause is broken, and all before it are kept

@@ -11,7 +11,7 @@
 --   written          the bytes that are written for a value: its rows, fields parted by a tab, each line ended by a newline
 --   Refused bs f     bs is refused as f says: the first thing that is wrong with it, in the order of checks
 use Rattle.std.specs.Prelude.{◌≡◌, ℕ, ◌+◌, ◌<◌, ◌≤◌, Bool, cond, ◌&&◌, ◌⊎◌, List, [], ◌∷◌, ◌++◌, map, length, Some, None, Ok, Err, Option, Result, ◌==◌, ◌≢◌, nat_le, nat_lt}
-use Rattle.std.specs.List.{AllByRecursion as All}
+use Rattle.std.specs.List.{AllByRecursion}
 use Rattle.model.specs.Sizes.{most_bytes}
 use Rattle.model.specs.declared.refusal.Refusal.{Refusal}
 use Rattle.model.specs.declared.refusal.Refusal.TheVariants.{Form, Byte, NotOfKind}
@@ -125,14 +125,14 @@ pub data Refused {X : Type 0} (M : Meaning X) (bs : List ℕ) (f : TextFault) : 
   -- 10
   no_text : (IsText bs → ⊥) → f ≡ fault Form 0 0 → Refused M bs f
   -- 11: all bytes before it are allowed
-  no_byte : IsText bs → (front : List ℕ) (b : ℕ) (back : List ℕ) → bs ≡ front ++ (b ∷ back) → All Allowed front → (Allowed b → ⊥)
+  no_byte : IsText bs → (front : List ℕ) (b : ℕ) (back : List ℕ) → bs ≡ front ++ (b ∷ back) → AllByRecursion Allowed front → (Allowed b → ⊥)
       → f ≡ fault Byte (newlines front + 1) (length front) → Refused M bs f
   -- 12 to 17 and 19: all lines before it are those of a value s that is right so far, and this line breaks a clause
-  no_line : IsText bs → All Allowed bs → (s : Option X) (l rest : List ℕ) → RightSoFar M s → bs ≡ so_far M s ++ (l ++ (10 ∷ rest)) → All (λ b. b ≢ 10) l
+  no_line : IsText bs → AllByRecursion Allowed bs → (s : Option X) (l rest : List ℕ) → RightSoFar M s → bs ≡ so_far M s ++ (l ++ (10 ∷ rest)) → AllByRecursion (λ b. b ≢ 10) l
       → (c : Refusal) (i : ℕ) → Breaks (M.clauses s (length (so_far M s)) (fields l)) c i
       → f ≡ fault c (lines-so-far M s + 1) i → Refused M bs f
   -- 18: the whole is the text of x, which is right so far, and x is not complete
-  no_end : IsText bs → All Allowed bs → (x : X) → M.Right x → bs ≡ written M x → (M.Complete x → ⊥)
+  no_end : IsText bs → AllByRecursion Allowed bs → (x : X) → M.Right x → bs ≡ written M x → (M.Complete x → ⊥)
       → f ≡ fault NotOfKind 0 (length bs) → Refused M bs f
 
 -- ---- the laws

@@ -12,7 +12,7 @@
 --   joined fs        the fields, parted by one tab (9)
 --   unlines ls       the lines, each followed by a newline (10)
 use Rattle.std.specs.Prelude.{◌≡◌, ℕ, suc, ◌+◌, ◌-◌, ◌*◌, ◌^◌, ◌<◌, ◌≤◌, Bool, true, false, cond, not, ◌&&◌, ◌||◌, ◌⊎◌, List, [], ◌∷◌, ◌++◌, length, decimal, ◌==◌, nat_le, nat_lt, slice_index, slice_index_or}
-use Rattle.std.specs.List.{AllByRecursion as All}
+use Rattle.std.specs.List.{AllByRecursion}
 use Rattle.std.specs.Str.{all_ascii_digits, bytes_eq}
 use Rattle.model.specs.Sizes.{name-tail}
 
@@ -35,18 +35,18 @@ Allowed b = (b ≡ 9) ⊎ ((b ≡ 10) ⊎ Shown b)
 
 abbrev pub IsName : List ℕ → Type 0
 IsName [] = ⊥
-IsName (b ∷ bs) = Letter b × All (λ c. Letter c ⊎ Digit c) bs × (length bs ≤ name-tail)
+IsName (b ∷ bs) = Letter b × AllByRecursion (λ c. Letter c ⊎ Digit c) bs × (length bs ≤ name-tail)
 
 abbrev pub Numeral : ℕ → List ℕ → Type 0
 Numeral d f = (v : ℕ) × (v < 10 ^ d) × (f ≡ decimal v)
 
 abbrev pub Apart : {A : Type 0} → (A → A → Type 0) → List A → Type 0
 Apart R [] = Unit {0}
-Apart R (x ∷ xs) = All (λ y. R x y → ⊥) xs × Apart R xs
+Apart R (x ∷ xs) = AllByRecursion (λ y. R x y → ⊥) xs × Apart R xs
 
 -- x is none of xs
 abbrev pub New : {A : Type 0} → (A → A → Type 0) → List A → A → Type 0
-New R xs x = All (λ y. R y x → ⊥) xs
+New R xs x = AllByRecursion (λ y. R y x → ⊥) xs
 
 -- of names
 abbrev pub NewName : List (List ℕ) → List ℕ → Type 0
