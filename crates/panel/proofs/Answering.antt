@@ -1,7 +1,6 @@
 -- The answers to orders.
-use Rattle.std.proofs.Common.{◌≡◌, ℕ, ◌+◌, ◌-◌, ◌<◌, ◌≤◌, Bool, true, false, cond, List, [], ◌∷◌, ◌++◌, map, length, get_or, take, drop, Some, None, vec_items, Option, Result, sym, refl, ap, ◌∙◌, subst, append_assoc, append-nil, arith}
+use Rattle.std.proofs.Common.{◌≡◌, ℕ, ◌+◌, ◌-◌, ◌<◌, ◌≤◌, Bool, true, false, cond, List, ◌∷◌, ◌++◌, length, take, drop, Some, None, Option, Result, sym, refl, ap, ◌∙◌, append_assoc, append-nil, arith}
 use Rattle.std.specs.List.{prefix_len}
-use Rattle.std.proofs.lemmas.List.{get_or-map}
 use Rattle.model.specs.declared.refusal.Refusal.TheVariants.{NoRecord}
 use Rattle.formats.specs.Words.{is-not, fields, lines, is_known, index_of}
 use Rattle.formats.specs.declared.fault.TextFault.{TextFault}
@@ -12,13 +11,12 @@ use Rattle.formats.specs.NetText as said
 use Rattle.formats.specs.NetText.{place-names}
 use Rattle.formats.proofs.Bridges.{lines_at, lines_end}
 use Rattle.formats.proofs.Pieces.{fields-some}
-use Rattle.net_text.specs.declared.net.Place.{Place}
 use Rattle.net_text.specs.declared.net.NetText.{NetText}
 use Rattle.texts.specs.Spans.{found}
-use Rattle.net_text.specs.Nets.{place_of, net-of, place-titles}
+use Rattle.net_text.specs.Nets.{net-of, place-titles}
 use Rattle.net_text.proofs.Names.{places_of}
 use Rattle.panel.specs.Prints.{no_line}
-use Rattle.panel.specs.Run.{nowhere, free_of, free-named, answer, answers, ran, printed-with, printed}
+use Rattle.panel.specs.Run.{free-named, answer, answers, ran, printed-with, printed}
 
 -- ---- a place by its name
 module _ (bs : List ℕ) (n : NetText) (free : ℕ → ℕ) (name : List ℕ) where

@@ -1,8 +1,7 @@
 -- A net that is proper fits the plant of its kind, and the plant's tokens are those of the text.
-use Rattle.std.proofs.Common.{◌≡◌, ℕ, zero, suc, ◌+◌, ◌%◌, ◌<◌, ◌≤◌, Bool, true, false, cond, ◌&&◌, ltb, leb, ◌⊎◌, List, [], ◌∷◌, map, length, get_or, vec_items, vec_len, sym, refl, ap, ◌∙◌, subst, inl, inr, arith}
+use Rattle.std.proofs.Common.{◌≡◌, ℕ, zero, suc, ◌+◌, ◌%◌, ◌<◌, ◌≤◌, Bool, true, ◌⊎◌, List, [], ◌∷◌, map, length, get_or, vec_items, vec_len, sym, refl, ap, ◌∙◌, subst, inl, inr, arith}
 use Rattle.std.specs.List.{AllByRecursion as All}
 use Rattle.std.proofs.lemmas.List.{length-map, get_or-map, get_or_past}
-use Rattle.std.proofs.ByRecursion.{All-get_or}
 use Rattle.std.proofs.lemmas.Bool.{and_from, le-leb, lt-ltb, cases_lt}
 use Rattle.model.specs.Sizes.{most-places, most-moves, most-arc, most-limit}
 use Rattle.formats.specs.declared.kind.Kind.{Kind}
@@ -19,8 +18,8 @@ use Rattle.net_text.specs.declared.net.Arc.{Arc}
 use Rattle.net_text.specs.declared.net.NetText.{NetText}
 use Rattle.net_text.specs.Nets.{place_of, move-of, arc-of, net-of}
 use Rattle.net_text.specs.Nets.{no_place}
-use Rattle.table.specs.Made.{is-filled, joins, some-few, is-fit}
-use Rattle.line.specs.Making.{LineText, Slot}
+use Rattle.table.specs.Made.{is-filled, joins, is-fit}
+use Rattle.line.specs.Making.{LineText}
 use Rattle.bank.specs.Making as banks
 use Rattle.panel.specs.Run.{nowhere, free_of}
 

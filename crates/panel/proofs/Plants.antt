@@ -1,8 +1,7 @@
 -- The net and the tokens of a plant that was made of a read text are those that the text says.
-use Rattle.std.proofs.Common.{◌≡◌, ℕ, ◌<◌, ◌≤◌, Bool, cond, ◌&&◌, eqb, ◌⊎◌, List, [], ◌∷◌, map, length, get_or, vec_items, vec_len, fold, sym, refl, ap, ◌∙◌, inl, inr, arith}
+use Rattle.std.proofs.Common.{◌≡◌, ℕ, ◌<◌, ◌≤◌, cond, ◌&&◌, eqb, ◌⊎◌, List, [], ◌∷◌, map, length, get_or, vec_items, fold, sym, refl, ap, ◌∙◌, inl, inr, arith}
 use Rattle.std.proofs.lemmas.List.{length-map, get_or-map, get_or_past}
 use Rattle.std.proofs.lemmas.Bool.{cases_lt}
-use Rattle.model.specs.Net as model
 use Rattle.formats.specs.declared.kind.Kind.TheVariants.{Net, Bank, Line}
 use Rattle.formats.specs.NetText as said
 use Rattle.net_text.specs.declared.net.Place.{Place}

@@ -7,7 +7,7 @@
 --   ran_on           what the orders print on a net with those tokens
 --   ran x orders     what a run on the net x prints: a line that refuses the orders, or an answer for each
 --   printed          what the program prints: a line that refuses the net, or a run on it
-use Rattle.std.specs.Prelude.{ℕ, Bool, true, false, cond, List, [], ◌∷◌, ◌++◌, Some, None, Ok, Err, codes, Option, Result, slice_index_or}
+use Rattle.std.specs.Prelude.{ℕ, cond, List, [], ◌∷◌, ◌++◌, Some, None, Ok, Err, codes, Option, Result, slice_index_or}
 use Rattle.std.specs.Str.{bytes_eq}
 use Rattle.model.specs.declared.refusal.Refusal.TheVariants.{NoRecord, NameUnknown}
 use Rattle.formats.specs.declared.fault.TextFault.{TextFault}

@@ -1,3 +1,5 @@
 // What the program does: from the bytes of the net, the rules and the orders to the bytes that are printed.
+#![tactic(auto)]
+
 pub mod print;
 pub mod run;

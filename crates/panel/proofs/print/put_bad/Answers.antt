@@ -1,4 +1,4 @@
-use Rattle.std.proofs.Common.{ℕ, List, ◌∷◌, ◌++◌, vec_items, decimal, ap, ◌∙◌}
+use Rattle.std.proofs.Common.{ℕ, ◌∷◌, ◌++◌, vec_items, decimal, ap, ◌∙◌}
 use Rattle.model.specs.Refusals.{refusal-number}
 use Rattle.panel.proofs.Adding.{bad-written}
 use Rattle.panel.proofs.print.put_bad.Goals as goal

@@ -1,4 +1,4 @@
-use Rattle.std.proofs.Common.{ℕ, List, map, ap, ◌∙◌}
+use Rattle.std.proofs.Common.{List, map, ap, ◌∙◌}
 use Rattle.net_text.specs.declared.net.Place.{Place}
 use Rattle.texts.specs.Spans.{part_of, found}
 use Rattle.panel.proofs.Answering.{free-found, free-missing}
