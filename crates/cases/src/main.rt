@@ -3,6 +3,8 @@
 // A line of cases.txt is `title | net | rules | orders`. In the texts a blank stands for a tab, a comma for a newline,
 // `\XX` for the byte with those two hexadecimal digits, and `{N*TEXT}` for N times TEXT. What is printed for a case is
 // `title | print`, with a blank for a tab and a comma for a newline.
+#![tactic(auto)]
+
 mod notation;
 
 use notation::{decode, encode};

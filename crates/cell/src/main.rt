@@ -1,4 +1,6 @@
 // The setter's program: reads cell.net, cell.rules and the orders, and writes what the panel prints.
+#![tactic(auto)]
+
 use panel::run::panel;
 use std::io::{ErrorKind, Read, Write};
 use std::{fs, io};
