@@ -9,7 +9,7 @@ pub mod layer;
 pub mod monitor;
 pub mod pile;
 pub mod row;
-pub mod rows;
+mod rows;
 mod setting;
 pub mod single;
 pub mod table;

@@ -41,9 +41,9 @@ fn fault(refusal: Refusal, t: usize, p: usize) -> Fault
 impl Net for Line {
     ghost net = { net-of };
 
-    ghost sound = { first_of (Prim.search rules, Prim.grind (arith, Self.row.coded.inj)) };
+    ghost sound = { Prim.search rules };
 
-    ghost layered = { first_of (Prim.search rules, Prim.grind (arith, Self.row.coded.inj)) };
+    ghost layered = { Prim.search rules };
 
     fn ground(&self) -> usize {
         self.count
@@ -87,9 +87,9 @@ impl Plant for Line {
 
     ghost pile = { λ s. plant-alone (net-of s) (tokens-of s) };
 
-    ghost stacked = { first_of (Prim.search rules, Prim.grind (arith, Self.row.coded.inj)) };
+    ghost stacked = { Prim.search rules };
 
-    ghost within = { first_of (Prim.search rules, Prim.grind (arith, Self.row.coded.inj)) };
+    ghost within = { Prim.search rules };
 
     fn free(&self, p: usize) -> u32 {
         if p < self.count { self.tokens[p] } else { 0 }

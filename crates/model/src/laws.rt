@@ -70,7 +70,7 @@ pub fn divisor_gcd() -> u8
     0
 }
 
-// A worked rule is L' = R1 + typeof.r.L, b' = r·(b + 1) − 1, with r ≥ 1 and no entry of R1 negative.
+// A worked rule is L' = R1 + r·L, b' = r·(b + 1) − 1, with r ≥ 1 and no entry of R1 negative.
 pub fn work_derives() -> u8
     ensures { WorkDerives }
 {

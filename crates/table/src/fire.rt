@@ -14,9 +14,9 @@ use plant::plant::Plant;
 impl Net for Table {
     ghost net = { net-of };
 
-    ghost sound = { first_of (Prim.search rules, Prim.grind (arith, Self.row.coded.inj)) };
+    ghost sound = { Prim.search rules };
 
-    ghost layered = { first_of (Prim.search rules, Prim.grind (arith, Self.row.coded.inj)) };
+    ghost layered = { Prim.search rules };
 
     fn ground(&self) -> usize {
         self.places
@@ -68,9 +68,9 @@ impl Plant for Table {
 
     ghost pile = { λ s. plant-alone (net-of s) (tokens-of s) };
 
-    ghost stacked = { first_of (Prim.search rules, Prim.grind (arith, Self.row.coded.inj)) };
+    ghost stacked = { Prim.search rules };
 
-    ghost within = { first_of (Prim.search rules, Prim.grind (arith, Self.row.coded.inj)) };
+    ghost within = { Prim.search rules };
 
     fn free(&self, p: usize) -> u32 {
         if p < self.places { self.tokens[p] } else { 0 }
