@@ -1,1 +1,4 @@
 pub mod Sums
+pub mod Rules
+pub mod Reading
+pub mod Naming

@@ -1,12 +1,32 @@
 // The reader of a sum: the weights that it gives to the places.
-ghost use Rattle.std.specs.Prelude.{ℕ, ◌+◌, ◌^◌, ◌<◌, ◌≤◌, length};
-ghost use Rattle.model.specs.Sizes.{most-places};
+ghost use Rattle.std.specs.Prelude.{◌≡◌, ℕ, ◌+◌, ◌^◌, ◌<◌, ◌≤◌, length, ◌*◌, nat_le, ◌+ℤ◌, unsigned_abs};
+ghost use Rattle.model.specs.Sizes.{most-places, most-weight};
+ghost use Rattle.formats.specs.Sums.{with-sign};
 ghost use Rattle.rules_text.specs.Sums.{titles, SumRead};
 
+use crate::part::{Next, next_at, read_term};
 use formats::fault::TextFault;
-use model::sizes::MOST_PLACES;
+use model::refusal::Refusal;
+use model::sizes::{MOST_PLACES, MOST_WEIGHT};
 use net_text::net::Place;
 use texts::at::At;
+
+// A weight with one part more.
+fn added(weight: i32, number: u32, minus: bool) -> i32
+    requires weight_bound { unsigned_abs weight ≤ most-weight }
+    requires number_bound { number ≤ 99 }
+    ensures value { result ≡ weight +ℤ with-sign minus number }
+    ensures within { unsigned_abs result ≤ 2 * most-weight }
+{
+    let more = number as i32;
+    if minus { weight - more } else { weight + more }
+}
+
+fn is_weight(weight: i32) -> bool
+    ensures { result ≡ nat_le (unsigned_abs weight) most-weight }
+{
+    -MOST_WEIGHT <= weight && weight <= MOST_WEIGHT
+}
 
 // The weights of the sum that a field is, which starts at `byte`; or the first thing that is wrong with it from the left.
 pub(crate) fn read_sum(
@@ -20,5 +40,20 @@ pub(crate) fn read_sum(
     requires sum_bound { byte + length sum.now + 1 < 2 ^ 64 }
     ensures { SumRead (titles net.now places.now) at.line byte sum.now result }
 {
-    todo
+    let mut weights = [0; MOST_PLACES];
+    let mut minus = matches!(next_at(sum, 0), Next::Minus);
+    let mut start = usize::from(minus);
+    'parts: loop {
+        let term = read_term(places, net, sum, start, at, byte)?;
+        let weight = added(weights[term.place], term.number, minus);
+        at.check(is_weight(weight), Refusal::Sum, byte + term.name)?;
+        weights[term.place] = weight;
+        match next_at(sum, term.end) {
+            Next::Plus => minus = false,
+            Next::Minus => minus = true,
+            Next::Times | Next::Other => return Err(at.fault(Refusal::Sum, byte + term.end)),
+            Next::End => return Ok(weights),
+        }
+        start = term.end + 1;
+    }
 }
