@@ -219,7 +219,7 @@ module _ (ns : List (List ℕ)) (at : ℕ) (f : List ℕ) (i k : ℕ) (m : Bool)
       weight-fits : leb (nat_abs (weight g.done (index_of ns (title p)) +ℤ amount q)) 99 ≡ true
       weight-fits = ap (λ (y : ℤ). leb (nat_abs y) 99) weight_is ∙ fits
 
-      pub left-refused : (v : Next) → v ≡ next_at f t.end → (v ≡ Times) ⊎ (v ≡ Other) → Err (fault Sum k (at + t.end)) ≡ answer
+      pub left-refused : (v : Next) → v ≡ next_at f t.end → (v ≡ Other) ⊎ (v ≡ Times) → Err (fault Sum k (at + t.end)) ≡ answer
       left-refused v n odd =
           let l : none (left p) ≡ false = left_is ∙ left-over f t.name (length (title p)) t.end end_at title-size v n odd in
           to-last (fault Sum k (at + t.end))

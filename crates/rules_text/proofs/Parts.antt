@@ -231,9 +231,9 @@ module _ (f : List ℕ) (j k e : ℕ) (q : e ≡ j + k) (h : k ≤ length (piece
       go (inl m) (inr l) = absurd (none_here m.0 (λ a. omega (arith, m.1, a)) (λ a. omega (arith, m.1, a)) l)
       go (inr m) (inr l) = absurd (none_here m.0 m.1 m.2 l)
 
-  pub left-over : (v : Next) → v ≡ next_at f e → (v ≡ Times) ⊎ (v ≡ Other) → none (drop k (piece_at f j)) ≡ false
+  pub left-over : (v : Next) → v ≡ next_at f e → (v ≡ Other) ⊎ (v ≡ Times) → none (drop k (piece_at f j)) ≡ false
   left-over v n w =
-      let l : k < length (piece_at f j) = goes-on (elim w [ inl a ↦ inl (subst (Means f e) a (next-means f e v n)) | inr a ↦ inr (subst (Means f e) a (next-means f e v n)) ]) in
+      let l : k < length (piece_at f j) = goes-on (elim w [ inl a ↦ inr (subst (Means f e) a (next-means f e v n)) | inr a ↦ inl (subst (Means f e) a (next-means f e v n)) ]) in
       none_some (drop k (piece_at f j)) (omega (arith, length-drop k (piece_at f j)))
 
   pub left-none : length (piece_at f j) ≡ k → none (drop k (piece_at f j)) ≡ true

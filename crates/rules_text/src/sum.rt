@@ -51,7 +51,7 @@ pub(crate) fn read_sum(
         match next_at(sum, term.end) {
             Next::Plus => minus = false,
             Next::Minus => minus = true,
-            Next::Times | Next::Other => return Err(at.fault(Refusal::Sum, byte + term.end)),
+            Next::Other | Next::Times => return Err(at.fault(Refusal::Sum, byte + term.end)),
             Next::End => return Ok(weights),
         }
         start = term.end + 1;

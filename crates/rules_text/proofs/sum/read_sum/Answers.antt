@@ -43,14 +43,14 @@ returns-in_err-check c =
     c.in_ok-term.term x c.in_ok-term.ensures.value c.in_ok-term.ensures.rest is _
     (c.in_err-check.ensures ∙ ap (λ (b : Bool). checked (check b Sum (c.args.byte + c.in_ok-term.term.name) ∷ []) c.args.at.line (tt {0})) test))
 
-pub returns-in-Times : goal.returns-in-Times
-returns-in-Times c =
+pub returns-in-Other : goal.returns-in-Other
+returns-in-Other c =
     let x = c.added-weight.result in
     let is = plus-kept (get_or c.parts.weights c.in_ok-term.term.place (pos 0)) _ x (c.parts.invariant.small c.in_ok-term.term.place) c.added-weight.ensures.value in
     let fits : leb (nat_abs x) 99 ≡ true = sym (test-kept x c.is_weight.result c.added-weight.ensures.within c.is_weight.ensures) ∙ passed _ _ _ _ _ _ c.in_ok-check.ensures in
     ap Err c.fault.ensures
     ∙ left-refused (titles c.args.net.now c.args.places.now) c.args.byte c.args.sum.now c.parts.start c.args.at.line c.parts.minus c.parts.weights c.parts.invariant
-    c.in_ok-term.term x c.in_ok-term.ensures.value c.in_ok-term.ensures.rest is fits c.next_at-in-parts.result c.next_at-in-parts.ensures c.in-Times.is
+    c.in_ok-term.term x c.in_ok-term.ensures.value c.in_ok-term.ensures.rest is fits c.next_at-in-parts.result c.next_at-in-parts.ensures c.in-Other.is
 
 pub returns-in-End : goal.returns-in-End
 returns-in-End c =
