@@ -1,8 +1,8 @@
 -- A net that is proper fits the plant of its kind, and the plant's tokens are those of the text.
-use Rattle.std.proofs.Common.{◌≡◌, ℕ, zero, suc, ◌+◌, ◌%◌, ◌<◌, ◌≤◌, Bool, true, ◌⊎◌, List, [], ◌∷◌, map, length, get_or, vec_items, vec_len, sym, refl, ap, ◌∙◌, subst, inl, inr, arith}
-use Rattle.std.specs.List.{AllByRecursion as All}
-use Rattle.std.proofs.lemmas.List.{length-map, get_or-map, get_or_past}
-use Rattle.std.proofs.lemmas.Bool.{and_from, le-leb, lt-ltb, cases_lt}
+use Rattle.std.proofs.Common.{◌≡◌, ℕ, zero, suc, ◌+◌, ◌%◌, ◌<◌, Bool, true, List, [], ◌∷◌, map, length, get_or, vec_items, vec_len, sym, refl, ap, ◌∙◌, subst, arith}
+use Rattle.std.specs.List.{AllByRecursion}
+use Rattle.std.proofs.lemmas.List.{length-map}
+use Rattle.std.proofs.lemmas.Bool.{and_from, le-leb, lt-ltb}
 use Rattle.model.specs.Sizes.{most-places, most-moves, most-arc, most-limit}
 use Rattle.formats.specs.declared.kind.Kind.{Kind}
 use Rattle.formats.specs.declared.kind.Kind.TheVariants.{Net, Bank, Line}
@@ -21,16 +21,15 @@ use Rattle.net_text.specs.Nets.{no_place}
 use Rattle.table.specs.Made.{is-filled, joins, is-fit}
 use Rattle.line.specs.Making.{LineText}
 use Rattle.bank.specs.Making as banks
-use Rattle.panel.specs.Run.{nowhere, free_of}
 
 -- ---- what holds of all records holds of each
-each_map : {X Y : Type 0} (P : Y → Type 0) (f : X → Y) (xs : List X) (d : X) → All P (map f xs) → (i : ℕ) → i < length xs → P (f (get_or xs i d))
+each_map : {X Y : Type 0} (P : Y → Type 0) (f : X → Y) (xs : List X) (d : X) → AllByRecursion P (map f xs) → (i : ℕ) → i < length xs → P (f (get_or xs i d))
 each_map P f [] d h i l = absurd (omega arith)
 each_map P f (x ∷ xs) d h zero l = h.0
 each_map P f (x ∷ xs) d h (suc i) l = each_map P f xs d h.1 i (omega arith)
 
 -- a test that passes wherever P holds passes on all
-all_map : {X Y : Type 0} (P : Y → Type 0) (f : X → Y) (t : X → Bool) → ((x : X) → P (f x) → t x ≡ true) → (xs : List X) → All P (map f xs) → all t xs ≡ true
+all_map : {X Y : Type 0} (P : Y → Type 0) (f : X → Y) (t : X → Bool) → ((x : X) → P (f x) → t x ≡ true) → (xs : List X) → AllByRecursion P (map f xs) → all t xs ≡ true
 all_map P f t by [] h = refl
 all_map P f t by (x ∷ xs) h = and_from (t x) (all t xs) (by x h.0) (all_map P f t by xs h.1)
 
@@ -103,16 +102,3 @@ module _ (bs : List ℕ) (n : NetText) (p : Proper net-meaning (net-of bs n)) wh
             let one = each_map (λ (q : said.Place). q.limit ≡ 1) (place_of bs) ps no_place s.2 i l in
             (one, omega (arith, f.0));
       }
-
--- ---- the tokens of the text, at each place
-pub text-tokens : (bs : List ℕ) (n : NetText) → (λ (i : ℕ). (get_or (vec_items n.places) i no_place).tokens) ≡ free_of (net-of bs n)
-text-tokens bs n = λ z i. at i z
-  where
-    at : (i : ℕ) → (get_or (vec_items n.places) i no_place).tokens ≡ free_of (net-of bs n) i
-    at i = go (cases_lt i (length (vec_items n.places)))
-      where
-        go : (i < length (vec_items n.places)) ⊎ (length (vec_items n.places) ≤ i) → (get_or (vec_items n.places) i no_place).tokens ≡ free_of (net-of bs n) i
-        go (inl l) = sym (ap (λ (q : said.Place). q.tokens) (get_or-map (place_of bs) (vec_items n.places) i no_place nowhere l))
-        go (inr m) =
-            ap (λ (q : Place). q.tokens) (get_or_past (vec_items n.places) i no_place m)
-            ∙ sym (ap (λ (q : said.Place). q.tokens) (get_or_past (map (place_of bs) (vec_items n.places)) i nowhere (omega (arith, length-map (vec_items n.places) (place_of bs)))))

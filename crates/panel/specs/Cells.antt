@@ -1,18 +1,20 @@
--- A cell by value: what its net text and its rules text say.
---   no_place, no_move    what is read past the end of the places and moves
+-- A cell by value: what its net text and its rules text say that a run depends on.
+--   no_place, no_move, no_rule    what is read past the end of the places, moves and rules
 --   limit-of, free_of, letter-of   of the net x: the limit of the place p, its tokens at the start, and whether the move t is controllable
 --   arc-takes, arc-gives what the arcs of x say that the move t takes from the place p, and gives to it; 0 where there is no arc
 --   plant-net        the net of the plant that x tells of, by its kind
 --   typed-of q       the rule that a line of the rules text types
+--   Cell             names, net, tokens at the start, and rules as typed: the fixed one, and the one of each rule line
 --   pile-names       the names of all places of the cell's pile: the ground places, then the fixed rule's place, then those of the rules
-use Rattle.std.specs.Prelude.{ℕ, Bool, false, cond, ◌&&◌, List, [], ◌++◌, length, fold, ◌==◌, slice_index_or}
+--   cell-of          the cell of a net text and a rules text
+use Rattle.std.specs.Prelude.{ℕ, pos, Bool, false, cond, ◌&&◌, List, [], ◌∷◌, ◌++◌, map, length, fold, ◌==◌, slice_index_or}
 use Rattle.model.specs.Net as model
 use Rattle.model.specs.Rule.{Rule}
 use Rattle.formats.specs.declared.kind.Kind.{Kind}
 use Rattle.formats.specs.declared.kind.Kind.TheVariants.{Net, Bank, Line}
-use Rattle.formats.specs.NetText.{Place, Move, Arc, NetText, place-names}
+use Rattle.formats.specs.NetText.{Place, Move, Arc, NetText, place-names, move-names}
 use Rattle.formats.specs.Sums.{weight}
-use Rattle.formats.specs.RulesText.{RuleLine, RulesText, rule-names}
+use Rattle.formats.specs.RulesText.{RuleLine, RulesText}
 use Rattle.table.specs.Tables.{table-net}
 use Rattle.bank.specs.Banks.{bank-net}
 use Rattle.line.specs.Lines.{line-net}
@@ -22,6 +24,9 @@ no_place = record { name = []; tokens = 0; limit = 0 }
 
 abbrev pub no_move : Move
 no_move = record { name = []; controllable = false }
+
+abbrev pub no_rule : RuleLine
+no_rule = record { name = []; sum = []; bound = pos 0 }
 
 abbrev pub limit-of : NetText → ℕ → ℕ
 limit-of x p = (slice_index_or x.places p no_place).limit
@@ -53,5 +58,27 @@ plant-net x = net-by x.kind x
 abbrev pub typed-of : RuleLine → Rule
 typed-of q = record { weight = weight q.sum; bound = q.bound }
 
-abbrev pub pile-names : NetText → RulesText → List (List ℕ)
-pile-names x y = place-names x ++ rule-names y
+pub record Cell : Type 0 where
+  pub places : List (List ℕ)
+  pub moves : List (List ℕ)
+  pub fixed : List ℕ
+  pub rules : List (List ℕ)
+  pub net : model.Net
+  pub free : ℕ → ℕ
+  pub typed-fixed : Rule
+  pub typed : ℕ → Rule
+
+abbrev pub pile-names : Cell → List (List ℕ)
+pile-names c = c.places ++ (c.fixed ∷ c.rules)
+
+abbrev pub cell-of : NetText → RulesText → Cell
+cell-of x y = record {
+  places = place-names x;
+  moves = move-names x;
+  fixed = y.fixed.name;
+  rules = map (λ (r : RuleLine). r.name) y.others;
+  net = plant-net x;
+  free = free_of x;
+  typed-fixed = typed-of y.fixed;
+  typed = λ r. typed-of (slice_index_or y.others r no_rule);
+}

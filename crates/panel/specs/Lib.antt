@@ -1,3 +1,6 @@
 pub mod Prints
 pub mod Cells
+pub mod Said
+pub mod Orders
+pub mod Asked
 pub mod Run

@@ -1,5 +1,8 @@
 // What the program does: from the bytes of the net, the rules and the orders to the bytes that are printed.
 #![tactic(auto)]
 
+mod obey;
+pub mod order;
 pub mod print;
 pub mod run;
+pub mod said;

@@ -1,6 +1,6 @@
 // Printing: each function adds what it prints to the bytes so far.
 ghost use Rattle.std.specs.Prelude.{◌≡◌, ℕ, ◌^◌, ◌<◌, [], ◌∷◌, ◌++◌, decimal, OnOk};
-ghost use Rattle.panel.specs.Prints.{bad-line, at-line, no_line};
+ghost use Rattle.panel.specs.Prints.{bad-line, at-line, ok-line, refused-line};
 
 use formats::fault::TextFault;
 use model::refusal::Refusal;
@@ -56,12 +56,28 @@ pub fn put_at(out: &mut Vec<u8>, name: &[u8], free: u32) -> Result<(), AllocErro
     Ok(())
 }
 
-// `no NUMBER - -`: an order is refused, with neither a move nor a place to name.
-pub fn put_no(out: &mut Vec<u8>, refusal: Refusal) -> Result<(), AllocError>
-    ensures { OnOk result (out.new.items ≡ out.old.items ++ no_line refusal) }
+// `ok`: a call is accepted.
+pub fn put_ok(out: &mut Vec<u8>) -> Result<(), AllocError>
+    ensures { OnOk result (out.new.items ≡ out.old.items ++ ok-line) }
+{
+    put(out, b"ok\n")
+}
+
+// `no NUMBER MOVE PLACE`: an order is refused, with the move and the place by name, `-` where there is none.
+pub fn put_no(
+    out: &mut Vec<u8>,
+    refusal: Refusal,
+    transition: &[u8],
+    place: &[u8],
+) -> Result<(), AllocError>
+    ensures { OnOk result (out.new.items ≡ out.old.items ++ refused-line refusal transition.now place.now) }
 {
     put(out, b"no")?;
     put_count(out, usize::from(refusal.number()))?;
-    put(out, b"\t-\t-\n")?;
+    put(out, b"\t")?;
+    put(out, transition)?;
+    put(out, b"\t")?;
+    put(out, place)?;
+    put(out, b"\n")?;
     Ok(())
 }

@@ -1,159 +1,144 @@
 // The run of a cell, from its three texts to what is printed.
-ghost use Rattle.std.specs.Prelude.{◌≡◌, ℕ, ◌≤◌, ◌++◌, length, IfOk, OnOk};
-ghost use Rattle.formats.specs.Words.{fields, last, lines};
-ghost use Rattle.model.specs.Sizes.{most_bytes};
-ghost use Rattle.formats.specs.NetText as said;
-ghost use Rattle.formats.specs.NetClauses.{net-meaning};
-ghost use Rattle.formats.specs.Texts.{Proper, written};
+ghost use Rattle.std.specs.Prelude.{◌≡◌, ◌++◌, Ok, codes, IfOk, OnOk};
 ghost use Rattle.texts.specs.Lines.{text-check};
+ghost use Rattle.formats.specs.NetText.{NetText as NetSaid};
+ghost use Rattle.formats.specs.NetText.{names, place-names};
+ghost use Rattle.formats.specs.RulesText.{RulesText as RulesSaid};
+ghost use Rattle.formats.specs.RulesText.{read-rules, rules-meaning};
+ghost use Rattle.formats.specs.NetClauses.{net-meaning};
+ghost use Rattle.formats.specs.Texts.{Proper, fault, written};
 ghost use Rattle.net_text.specs.Nets.{net-of};
-ghost use Rattle.panel.specs.Run.{free-named, shown, answer, answers, ran_on, ran, printed};
+ghost use Rattle.panel.specs.Prints.{bad-line};
+ghost use Rattle.panel.specs.Orders.{ran};
+ghost use Rattle.panel.specs.Cells.{cell-of};
+ghost use Rattle.panel.specs.Said.{cell-said};
+ghost use Rattle.panel.specs.Run.{by-rules, printed};
 
-use crate::print::{put_at, put_bad, put_no};
+use crate::obey::obey_all;
+use crate::order::typed;
+use crate::print::put_bad;
+use crate::said::Said;
 use formats::fault::TextFault;
 use formats::kind::Kind;
+use layers::pile::build;
+use ledger::ledger::Ledger;
 use model::refusal::Refusal;
 use net_text::net::NetText;
 use net_text::reader::read_net;
 use plant::plant::Plant;
+use rules_text::reader::read_rules;
 use std::alloc::{AllocError, Global};
-use texts::lines::{check_text, cut};
-use texts::names::find;
+use texts::lines::check_text;
 use texts::stop::ReadError;
-use texts::words::{same, until};
 
-// The free tokens of the place of that name.
-fn free_named<P: Plant>(plant: &P, net: &NetText, text: &[u8], name: &[u8]) -> Option<u32>
-    ensures { result ≡ free-named (net-of text.now net.now) (P.Plant.tokens plant.now) name.now }
+// `bad fixed NUMBER 1 0`: the fixed rule is refused.
+fn put_bad_fixed(out: &mut Vec<u8>, refusal: Refusal) -> Result<(), AllocError>
+    ensures { OnOk result (out.new.items ≡ out.old.items ++ bad-line (codes "fixed") (fault refusal 1 0)) }
 {
-    match find(&net.places, text, name) {
-        Some(i) => Some(plant.free(i)),
-        None => None,
-    }
+    let fault = TextFault {
+        refusal,
+        line: 1,
+        byte: 0,
+    };
+    put_bad(out, b"fixed", fault)
 }
 
-// `show NAME`: the free tokens of a place.
-fn show<P: Plant>(
+// The orders, which have passed the checks of the whole text, on a plant: with a monitor for the fixed rule, a board for the others,
+// and a ledger on top.
+fn run_checked<P: Plant + Drop>(
     out: &mut Vec<u8>,
-    plant: &P,
-    net: &NetText,
-    text: &[u8],
-    name: &[u8],
-) -> Result<(), AllocError>
-    ensures { OnOk result (out.new.items ≡ out.old.items ++ shown (net-of text.now net.now) (P.Plant.tokens plant.now) name.now) }
-{
-    let Some(free) = free_named(plant, net, text, name) else {
-        put_no(out, Refusal::NameUnknown)?;
-        return Ok(());
-    };
-    put_at(out, name, free)?;
-    Ok(())
-}
-
-// One order: its word and one more field.
-fn obey<P: Plant>(
-    out: &mut Vec<u8>,
-    plant: &P,
-    net: &NetText,
-    text: &[u8],
-    order: &[u8],
-) -> Result<(), AllocError>
-    ensures { OnOk result (out.new.items ≡ out.old.items ++ answer (net-of text.now net.now) (P.Plant.tokens plant.now) (fields order.now)) }
-{
-    let (word, rest) = cut(order);
-    let Some(rest) = rest else {
-        put_no(out, Refusal::NoRecord)?;
-        return Ok(());
-    };
-    let (name, None) = cut(rest) else {
-        put_no(out, Refusal::NoRecord)?;
-        return Ok(());
-    };
-    if !same(word, b"show") {
-        put_no(out, Refusal::NoRecord)?;
-        return Ok(());
-    }
-    show(out, plant, net, text, name)?;
-    Ok(())
-}
-
-// All orders, line by line.
-fn obey_all<P: Plant>(
-    out: &mut Vec<u8>,
-    plant: &P,
-    net: &NetText,
-    text: &[u8],
+    said: Said,
+    plant: P,
     orders: &[u8],
 ) -> Result<(), AllocError>
-    requires { (length orders.now ≤ most_bytes) × (last orders.now ≡ 10) }
-    ensures { OnOk result (out.new.items ≡ out.old.items ++ answers (net-of text.now net.now) (P.Plant.tokens plant.now) (lines orders.now)) }
+    requires net { P.Net.net plant ≡ (cell-said said.net_text.now said.net.now said.rules_text.now said.rules.now).net }
+    requires tokens { P.Plant.tokens plant ≡ (cell-said said.net_text.now said.net.now said.rules_text.now said.rules.now).free }
+    requires checked { Ok tt ≡ text-check orders.now }
+    ensures { OnOk result (out.new.items ≡ out.old.items ++ ran (cell-said said.entry.net_text.now said.entry.net.now said.entry.rules_text.now said.entry.rules.now) orders.now) }
 {
-    let mut start = 0;
-    'orders: while start < orders.len() {
-        let end = until(orders, start, b'\n');
-        obey(out, plant, net, text, &orders[start..end])?;
-        start = end + 1;
+    match build(plant, &typed(&said.rules.fixed)) {
+        Ok(pile) => {
+            let mut ledger = Ledger::new(pile);
+            obey_all(out, said, &mut ledger, orders)
+        }
+        Err(fault) => put_bad_fixed(out, fault.refusal),
     }
-    Ok(())
 }
 
-// The orders on a plant: a line that refuses them, or an answer for each.
-fn run_orders<P: Plant>(
+// The orders on a plant.
+fn run_plant<P: Plant + Drop>(
     out: &mut Vec<u8>,
-    plant: &P,
-    net: &NetText,
-    text: &[u8],
+    said: Said,
+    plant: P,
     orders: &[u8],
 ) -> Result<(), AllocError>
-    ensures { OnOk result (out.new.items ≡ out.old.items ++ ran_on (net-of text.now net.now) (P.Plant.tokens plant.now) orders.now (text-check orders.now)) }
+    requires net { P.Net.net plant ≡ (cell-said said.net_text.now said.net.now said.rules_text.now said.rules.now).net }
+    requires tokens { P.Plant.tokens plant ≡ (cell-said said.net_text.now said.net.now said.rules_text.now said.rules.now).free }
+    ensures { OnOk result (out.new.items ≡ out.old.items ++ ran (cell-said said.entry.net_text.now said.entry.net.now said.entry.rules_text.now said.entry.rules.now) orders.now) }
 {
-    if let Err(fault) = check_text(orders) {
-        put_bad(out, b"orders", fault)?;
-        return Ok(());
-    }
-    obey_all(out, plant, net, text, orders)?;
-    Ok(())
-}
-
-// The orders on the plant that a net text tells of, by its kind.
-fn run_net(out: &mut Vec<u8>, net: &NetText, text: &[u8], orders: &[u8]) -> Result<(), AllocError>
-    requires { Proper net-meaning (net-of text.now net.now) }
-    ensures { OnOk result (out.new.items ≡ out.old.items ++ ran (net-of text.now net.now) orders.now) }
-{
-    match net.kind {
-        Kind::Net => {
-            let Some(plant) = table::make::make(net) else {
-                unreachable()
-            };
-            run_orders(out, &plant, net, text, orders)?;
-            Ok(())
-        }
-        Kind::Bank => {
-            let Some(plant) = bank::making::make(net) else {
-                unreachable()
-            };
-            run_orders(out, &plant, net, text, orders)?;
-            Ok(())
-        }
-        Kind::Line => {
-            let Some(plant) = line::making::make(net) else {
-                unreachable()
-            };
-            run_orders(out, &plant, net, text, orders)?;
-            Ok(())
-        }
+    match check_text(orders) {
+        Ok(()) => run_checked(out, said, plant, orders),
+        Err(fault) => put_bad(out, b"orders", fault),
     }
 }
 
-// What the program prints for its net, its rules and its orders. The rules are not read yet.
-pub fn panel(heap: Global, net: &[u8], rules: &[u8], orders: &[u8]) -> Result<Vec<u8>, AllocError>
+// The orders on the plant that the net text tells of, by its kind.
+fn run_net(out: &mut Vec<u8>, said: Said, orders: &[u8]) -> Result<(), AllocError>
+    requires { Proper net-meaning (net-of said.net_text.now said.net.now) }
+    ensures { OnOk result (out.new.items ≡ out.old.items ++ ran (cell-said said.entry.net_text.now said.entry.net.now said.entry.rules_text.now said.entry.rules.now) orders.now) }
+{
+    match said.net.kind {
+        Kind::Net => match table::make::make(said.net) {
+            Some(plant) => run_plant(out, said, plant, orders),
+            None => unreachable(),
+        },
+        Kind::Bank => match bank::making::make(said.net) {
+            Some(plant) => run_plant(out, said, plant, orders),
+            None => unreachable(),
+        },
+        Kind::Line => match line::making::make(said.net) {
+            Some(plant) => run_plant(out, said, plant, orders),
+            None => unreachable(),
+        },
+    }
+}
+
+// The rules and the orders, on a net that was read.
+fn run_rules(
+    alloc: Global,
+    out: &mut Vec<u8>,
+    net: &NetText,
+    net_text: &[u8],
+    rules_text: &[u8],
+    orders: &[u8],
+) -> Result<(), AllocError>
+    requires { Proper net-meaning (net-of net_text.now net.now) }
+    ensures { OnOk result (out.new.items ≡ out.old.items ++ by-rules (net-of net_text.now net.now) (read-rules (names (net-of net_text.now net.now)) (place-names (net-of net_text.now net.now)) rules_text.now) orders.now) }
+{
+    match read_rules(alloc, net, net_text, rules_text) {
+        Ok(rules) => {
+            let said = Said {
+                net,
+                net_text,
+                rules: &rules,
+                rules_text,
+            };
+            run_net(out, said, orders)
+        }
+        Err(ReadError::Refused(fault)) => put_bad(out, b"rules", fault),
+        Err(ReadError::NoMemory) => Err(AllocError),
+    }
+}
+
+// What the program prints for its net, its rules and its orders.
+pub fn panel(alloc: Global, net: &[u8], rules: &[u8], orders: &[u8]) -> Result<Vec<u8>, AllocError>
     ensures printed { IfOk result (λ v. v.items ≡ printed net.now rules.now orders.now) }
-    ensures proper { (x : said.NetText) → Proper net-meaning x → net.now ≡ written net-meaning x → IfOk result (λ v. v.items ≡ ran x orders.now) }
+    ensures proper { (x : NetSaid) (y : RulesSaid) → Proper net-meaning x → net.now ≡ written net-meaning x → Proper (rules-meaning (names x) (place-names x)) y → rules.now ≡ written (rules-meaning (names x) (place-names x)) y → IfOk result (λ v. v.items ≡ ran (cell-of x y) orders.now) }
 {
-    let mut out = Vec::new(heap);
-    match read_net(heap, net) {
+    let mut out = Vec::new(alloc);
+    match read_net(alloc, net) {
         Ok(read) => {
-            run_net(&mut out, &read, net, orders)?;
+            run_rules(alloc, &mut out, &read, net, rules, orders)?;
             Ok(out)
         }
         Err(ReadError::Refused(fault)) => {

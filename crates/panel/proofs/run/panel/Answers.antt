@@ -1,15 +1,19 @@
-use Rattle.std.proofs.Common.{◌≡◌, ℕ, List, ◌++◌, vec_items, Result, sym, ap, ◌∙◌}
-use Rattle.formats.specs.NetText.{NetText}
+use Rattle.std.proofs.Common.{ℕ, List, ◌++◌, Result, sym, ap, ◌∙◌}
 use Rattle.formats.specs.declared.fault.TextFault.{TextFault}
+use Rattle.formats.specs.NetText.{NetText, names, place-names}
+use Rattle.formats.specs.RulesText.{RulesText, read-rules}
+use Rattle.formats.proofs.NetLaws.{net-exact}
+use Rattle.formats.proofs.RulesLaws.{rules_exact}
 use Rattle.net_text.specs.Nets.{net-of}
-use Rattle.panel.specs.Run.{ran, printed-with, printed}
-use Rattle.panel.proofs.Answering.{ran-proper}
+use Rattle.panel.specs.Run.{by-rules, by-net}
 use Rattle.panel.proofs.run.panel.Goals as goal
 
-pub returns-in_ok-run_net-in-Ok : goal.returns-in_ok-run_net-in-Ok
-returns-in_ok-run_net-in-Ok c =
-    let all : vec_items c.run_net.new.out ≡ printed c.args.net.now c.args.rules.now c.args.orders.now =
-    c.in_ok-run_net-in-Ok.ensures
-    ∙ ap (λ (o : List ℕ). o ++ ran (net-of c.args.net.now c.in-Ok.read) c.args.orders.now) c.new-out.ensures.items
-    ∙ sym (ap (λ (r : Result NetText TextFault). printed-with r c.args.orders.now) c.in-Ok.ensures.answer) in
-    record { printed = all; proper = λ x p w. all ∙ ran-proper c.args.net.now c.args.rules.now c.args.orders.now x p w }
+pub returns-in_ok-run_rules-in-Ok-clause-proper : goal.returns-in_ok-run_rules-in-Ok-clause-proper
+returns-in_ok-run_rules-in-Ok-clause-proper c = λ x y p w q v.
+    let read : NetText = net-of c.args.net.now c.in-Ok.read in
+    let by = λ (r : Result NetText TextFault). by-net r c.args.rules.now c.args.orders.now in
+    c.in_ok-run_rules-in-Ok.ensures
+    ∙ ap (λ (o : List ℕ). o ++ by-rules read (read-rules (names read) (place-names read) c.args.rules.now) c.args.orders.now) c.new-out.ensures.items
+    ∙ sym (ap by c.in-Ok.ensures.answer)
+    ∙ ap by ((net-exact c.args.net.now x).1 p w)
+    ∙ ap (λ (r : Result RulesText TextFault). by-rules x r c.args.orders.now) ((rules_exact x p.right c.args.rules.now y).1 q v)

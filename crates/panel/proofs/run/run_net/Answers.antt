@@ -1,32 +1,33 @@
-use Rattle.std.proofs.Common.{ℕ, ◌++◌, vec_items, ap, ◌∙◌}
+use Rattle.std.proofs.Common.{◌∙◌}
 use Rattle.std.proofs.lemmas.Bool.{both_ways}
 use Rattle.table.specs.Made.{is-fit}
-use Rattle.texts.specs.Lines.{text-check}
-use Rattle.net_text.specs.Nets.{net-of}
-use Rattle.panel.specs.Run.{ran_on}
-use Rattle.panel.proofs.Fitting.{fits-table, fits_line, fits-bank, text-tokens}
+use Rattle.panel.proofs.Fitting.{fits-table, fits_line, fits-bank}
+use Rattle.panel.proofs.Plants.{tokens-said, table-said, bank-said, line-said}
 use Rattle.panel.proofs.run.run_net.Goals as goal
 
+pub run_plant-requires-clause-net : goal.run_plant-requires-clause-net
+run_plant-requires-clause-net c = c.in-Some.ensures.1 ∙ table-said c.args.said.net_text.now c.args.said.net.now c.in-Net.is
+
+pub run_plant-requires-clause-tokens : goal.run_plant-requires-clause-tokens
+run_plant-requires-clause-tokens c = c.in-Some.ensures.2 ∙ tokens-said c.args.said.net_text.now c.args.said.net.now
+
 pub unreachable-requires : goal.unreachable-requires
-unreachable-requires c = both_ways (is-fit c.args.net.now) c.in_default.ensures (fits-table c.args.text.now c.args.net.now c.requires c.in-Net.is)
+unreachable-requires c = both_ways (is-fit c.args.said.net.now) c.in-None.ensures (fits-table c.args.said.net_text.now c.args.said.net.now c.requires c.in-Net.is)
 
-pub unreachable-requires-in_default-make : goal.unreachable-requires-in_default-make
-unreachable-requires-in_default-make c = c.in_default-make.ensures (fits-bank c.args.text.now c.args.net.now c.requires c.in-Bank.is)
+pub run_plant-requires-in-Some-make-clause-net : goal.run_plant-requires-in-Some-make-clause-net
+run_plant-requires-in-Some-make-clause-net c = c.in-Some-make.ensures.1.net ∙ bank-said c.args.said.net_text.now c.args.said.net.now c.in-Bank.is
 
-pub unreachable-requires-in_default-make-2 : goal.unreachable-requires-in_default-make-2
-unreachable-requires-in_default-make-2 c = c.in_default-make-2.ensures (fits_line c.args.text.now c.args.net.now c.requires c.in-Line.is)
+pub run_plant-requires-in-Some-make-clause-tokens : goal.run_plant-requires-in-Some-make-clause-tokens
+run_plant-requires-in-Some-make-clause-tokens c = c.in-Some-make.ensures.1.tokens ∙ tokens-said c.args.said.net_text.now c.args.said.net.now
 
-pub returns-in_ok-run_orders-in-Net : goal.returns-in_ok-run_orders-in-Net
-returns-in_ok-run_orders-in-Net c =
-    let by = λ (f : ℕ → ℕ). vec_items c.args.out.now ++ ran_on (net-of c.args.text.now c.args.net.now) f c.args.orders.now (text-check c.args.orders.now) in
-    c.in_ok-run_orders-in-Net.ensures ∙ ap by (c.in-Some.ensures.2 ∙ text-tokens c.args.text.now c.args.net.now)
+pub unreachable-requires-in-None-make : goal.unreachable-requires-in-None-make
+unreachable-requires-in-None-make c = c.in-None-make.ensures (fits-bank c.args.said.net_text.now c.args.said.net.now c.requires c.in-Bank.is)
 
-pub returns-in_ok-run_orders-in-Bank : goal.returns-in_ok-run_orders-in-Bank
-returns-in_ok-run_orders-in-Bank c =
-    let by = λ (f : ℕ → ℕ). vec_items c.args.out.now ++ ran_on (net-of c.args.text.now c.args.net.now) f c.args.orders.now (text-check c.args.orders.now) in
-    c.in_ok-run_orders-in-Bank.ensures ∙ ap by (c.in-Some-make.ensures.1.tokens ∙ text-tokens c.args.text.now c.args.net.now)
+pub run_plant-requires-in-Some-make-2-clause-net : goal.run_plant-requires-in-Some-make-2-clause-net
+run_plant-requires-in-Some-make-2-clause-net c = c.in-Some-make-2.ensures.net ∙ line-said c.args.said.net_text.now c.args.said.net.now c.in-Line.is
 
-pub returns-in_ok-run_orders-in-Line : goal.returns-in_ok-run_orders-in-Line
-returns-in_ok-run_orders-in-Line c =
-    let by = λ (f : ℕ → ℕ). vec_items c.args.out.now ++ ran_on (net-of c.args.text.now c.args.net.now) f c.args.orders.now (text-check c.args.orders.now) in
-    c.in_ok-run_orders-in-Line.ensures ∙ ap by (c.in-Some-make-2.ensures.tokens ∙ text-tokens c.args.text.now c.args.net.now)
+pub run_plant-requires-in-Some-make-2-clause-tokens : goal.run_plant-requires-in-Some-make-2-clause-tokens
+run_plant-requires-in-Some-make-2-clause-tokens c = c.in-Some-make-2.ensures.tokens ∙ tokens-said c.args.said.net_text.now c.args.said.net.now
+
+pub unreachable-requires-in-None-make-2 : goal.unreachable-requires-in-None-make-2
+unreachable-requires-in-None-make-2 c = c.in-None-make-2.ensures (fits_line c.args.said.net_text.now c.args.said.net.now c.requires c.in-Line.is)

@@ -1,0 +1,28 @@
+use Rattle.std.proofs.Common.{◌≡◌, ℕ, List, ◌++◌, vec_items, subst}
+use Rattle.std.specs.Prelude.{OnOk}
+use Rattle.layers.specs.Piles.{stack-pile}
+use Rattle.rules.specs.Rules.{rule-of}
+use Rattle.formats.specs.ReadNet.{net-reader}
+use Rattle.texts.proofs.Whole.{text-passed}
+use Rattle.panel.specs.Cells.{Cell}
+use Rattle.panel.specs.Said.{cell-said}
+use Rattle.panel.proofs.Started.{ran-unset, ran-set}
+use Rattle.panel.proofs.run.run_checked.Goals as goal
+
+pub returns-in-Err : goal.returns-in-Err
+returns-in-Err g c =
+    let x : Cell = cell-said c.args.said.net_text.now c.args.said.net.now c.args.said.rules_text.now c.args.said.rules.now in
+    subst (λ (z : List ℕ). OnOk c.put_bad_fixed.result (vec_items c.put_bad_fixed.new.out ≡ vec_items c.args.out.now ++ z))
+    (ran-unset x (g.P.Net.net c.args.plant) (g.P.Plant.tokens c.args.plant) (rule-of c.typed.result) c.requires.net c.requires.tokens c.typed.ensures c.args.orders.now c.requires.checked c.in-Err.fault c.in-Err.ensures.answer)
+    c.put_bad_fixed.ensures
+
+pub obey_all-requires : goal.obey_all-requires
+obey_all-requires g c = let t = (text-passed net-reader c.args.orders.now c.requires.checked).0 in (t.1, t.2)
+
+pub returns-in-Ok : goal.returns-in-Ok
+returns-in-Ok g c =
+    let x : Cell = cell-said c.args.said.net_text.now c.args.said.net.now c.args.said.rules_text.now c.args.said.rules.now in
+    subst (λ (z : List ℕ). OnOk c.obey_all.result (vec_items c.obey_all.new.out ≡ vec_items c.args.out.now ++ z))
+    (ran-set x (g.P.Net.net c.args.plant) (g.P.Plant.tokens c.args.plant) (rule-of c.typed.result) c.requires.net c.requires.tokens c.typed.ensures c.args.orders.now c.requires.checked c.in-Ok.ensures.answer
+    (stack-pile g.P.Net.net g.P.Plant.tokens c.in-Ok.pile) _ c.new-ledger.ensures.new c.in-Ok.ensures.pile)
+    c.obey_all.ensures
