@@ -5,6 +5,7 @@
 // `title | print`, with a blank for a tab and a comma for a newline.
 #![tactic(auto)]
 
+pub mod marked;
 mod notation;
 
 use notation::{decode, encode};
