@@ -1,0 +1,77 @@
+// Makes many calls on plants and on a ledger as large as they come, for its time to be taken. It prints how many calls passed and
+// what stands at the end, which is the same on every run. Of the files beside it `turns` says how many turns each part takes, two
+// calls a turn, and `part` which one runs: table, bank, line, ledger or open, or all of them.
+#![tactic(auto)]
+
+mod making;
+mod turns;
+
+use crate::making::{full_ledger, make_bank, make_line, make_table};
+use crate::turns::{fire_turns, grant_moves, grant_turns};
+use ledger::ledger::Ledger;
+use plant::plant::Plant;
+use std::{fs, io};
+
+fn read_turns(rt: &HostRuntime) -> io::Result<u32> {
+    let text = fs::read_to_string(rt, "turns")?;
+    let Ok(turns) = text.trim().parse::<u32>() else {
+        return Err(io::Error::other("the file turns has no number"));
+    };
+    Ok(turns)
+}
+
+fn run_plant<P: Plant + Drop>(
+    rt: &HostRuntime,
+    name: &str,
+    mut plant: P,
+    turns: u32,
+) -> io::Result<()> {
+    let passed = fire_turns(&mut plant, turns);
+    println!(rt;
+        "{name}: {passed} calls passed in {turns} turns; free at place 0: {}",
+        plant.free(0)
+    )
+}
+
+fn run_ledger<P: Plant + Drop>(
+    rt: &HostRuntime,
+    name: &str,
+    mut ledger: Ledger<P>,
+    open: usize,
+    turns: u32,
+) -> io::Result<()> {
+    let granted = grant_moves(&mut ledger, open);
+    let passed = grant_turns(&mut ledger, turns);
+    println!(rt;
+        "{name}: {granted} open, {passed} calls passed in {turns} turns; free at place 0: {}",
+        ledger.free(0)
+    )
+}
+
+fn run_part(rt: &HostRuntime, part: &str, turns: u32) -> io::Result<()> {
+    match part {
+        "table" => run_plant(rt, part, make_table(rt)?, turns),
+        "bank" => run_plant(rt, part, make_bank(rt)?, turns),
+        "line" => run_plant(rt, part, make_line(rt)?, turns),
+        "ledger" => run_ledger(rt, part, full_ledger(rt)?, 0, turns),
+        "open" => run_ledger(rt, part, full_ledger(rt)?, 10, turns),
+        _ => println!(rt; "{part}: no such part"),
+    }
+}
+
+fn run(rt: &HostRuntime) -> io::Result<()> {
+    let turns = read_turns(rt)?;
+    let text = fs::read_to_string(rt, "part")?;
+    let part = text.trim();
+    if part != "all" {
+        return run_part(rt, part, turns);
+    }
+    for each in ["table", "bank", "line", "ledger", "open"] {
+        run_part(rt, each, turns)?;
+    }
+    Ok(())
+}
+
+fn main(rt: HostRuntime) -> io::Result<()> {
+    run(&rt)
+}

@@ -1,0 +1,99 @@
+// The calls of a cell, one by one and as a list: a board over a monitor over the zone, which holds at most two.
+use crate::nets::make_table;
+use crate::show::{Shown, print_answer, print_ledger, print_rule};
+use crate::typing::typed;
+use layers::board::Board;
+use layers::monitor::Monitor;
+use layers::pile::build;
+use ledger::call::Call::{self, Admit, Cancel, Commit, Grant, Report};
+use ledger::ledger::Ledger;
+use plant::plant::Plant;
+use std::io;
+use table::table::Table;
+
+pub type Cell<P> = Ledger<Board<Monitor<P>>>;
+
+// Of the zone's cell: the three ground places, the monitor's and the board's first.
+pub const ZONE: Shown = Shown {
+    places: 5,
+    ground_places: 3,
+    moves: 3,
+};
+
+pub fn open_zone(rt: &HostRuntime) -> io::Result<Cell<Table>> {
+    let plant = make_table(rt, "n1.net")?;
+    let Ok(pile) = build(plant, &typed(&[0, 1], 2)) else {
+        return Err(io::Error::other("the fixed rule is refused"));
+    };
+    Ok(Ledger::new(pile))
+}
+
+fn print_call(rt: &HostRuntime, call: &Call) -> io::Result<()> {
+    match call {
+        Grant(t) => print!(rt; "grant {t}: "),
+        Commit(t) => print!(rt; "commit {t}: "),
+        Cancel(t) => print!(rt; "cancel {t}: "),
+        Report(t) => print!(rt; "report {t}: "),
+        Admit(r, rule) => {
+            print!(rt; "admit {r}, ")?;
+            print_rule(rt, rule)?;
+            print!(rt; ": ")
+        }
+    }
+}
+
+pub fn run_calls<P: Plant>(
+    rt: &HostRuntime,
+    ledger: &mut Ledger<Board<P>>,
+    calls: &[Call],
+    shown: Shown,
+) -> io::Result<()> {
+    for call in calls {
+        print_call(rt, call)?;
+        let answer = ledger.make(call);
+        print_answer(rt, answer)?;
+        print_ledger(rt, ledger, shown)?;
+    }
+    Ok(())
+}
+
+// Two are let into the zone and a third is not; then the bench is to hold at most one.
+fn zone_calls() -> [Call; 10] {
+    [
+        Grant(0),
+        Grant(0),
+        Grant(0),
+        Cancel(0),
+        Commit(0),
+        Admit(0, typed(&[0, 0, 1], 1)),
+        Report(1),
+        Grant(2),
+        Grant(0),
+        Commit(2),
+    ]
+}
+
+fn run_one_by_one(rt: &HostRuntime) -> io::Result<()> {
+    println!(rt; "the zone, call by call")?;
+    let mut ledger = open_zone(rt)?;
+    run_calls(rt, &mut ledger, &zone_calls(), ZONE)?;
+    println!(rt; "free at place 4: {}", ledger.free(4))?;
+    run_calls(rt, &mut ledger, &[Grant(1)], ZONE)
+}
+
+fn run_list(rt: &HostRuntime) -> io::Result<()> {
+    println!(rt; "the zone, by a list")?;
+    let mut ledger = open_zone(rt)?;
+    let answers = ledger.run(rt.alloc(), &zone_calls())?;
+    for answer in answers.iter() {
+        print_answer(rt, *answer)?;
+        println!(rt; "")?;
+    }
+    print!(rt; "{} answers", answers.len())?;
+    print_ledger(rt, &ledger, ZONE)
+}
+
+pub fn run(rt: &HostRuntime) -> io::Result<()> {
+    run_one_by_one(rt)?;
+    run_list(rt)
+}
