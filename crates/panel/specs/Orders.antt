@@ -9,17 +9,22 @@
 --   obeyed           what an order prints, on a ledger; next-ledger: the ledger after it
 --   answers          what a list of order lines prints, each meeting what its forerunners left
 --   start-monitor, start-pile   a fixed monitor on the cell's plant, blank; and a board on it after its rule is set
+--   BuiltCell        the pile that the ledger is opened on is one that can be built, with the fixed rule in force, typed and worked, and
+--                    the promise holds after every list of calls on it
+--   Started          where the orders pass the checks of the whole text and the fixed rule can be set, the pile is BuiltCell
 --   ran-with         what the orders print, by what setting the fixed rule answers
 --   ran-on           the same, by what the checks of the whole orders text answer
 --   ran c orders     what the orders print on the cell
-use Rattle.std.specs.Prelude.{ℕ, cond, List, [], ◌∷◌, ◌++◌, Some, None, Ok, Err, Option, Result, codes, slice_index_or}
+use Rattle.std.specs.Prelude.{◌≡◌, ℕ, cond, List, [], ◌∷◌, ◌++◌, Some, None, Ok, Err, Option, Result, codes, slice_index_or}
 use Rattle.std.specs.Str.{bytes_eq}
 use Rattle.model.specs.declared.refusal.Refusal.TheVariants.{NoRecord, NameUnknown}
 use Rattle.model.specs.declared.fault.Spot.{Spot}
 use Rattle.model.specs.Plant.{Answer}
+use Rattle.model.specs.Rule.{Worked}
 use Rattle.model.specs.Working.{work}
-use Rattle.model.specs.Layer.{Pile, monitor, board, plant-alone, with-layer, monitor-answer}
-use Rattle.model.specs.Ledger.{Ledger, Call, grant, commit, cancel, report, admit, new-ledger, free-under, set-by, answer, next}
+use Rattle.model.specs.Layer.{Pile, monitor, board, plant-alone, with-layer, monitor-answer, in-force, Built}
+use Rattle.model.specs.Ledger.{Ledger, Call, grant, commit, cancel, report, admit, new-ledger, free-under, set-by, answer, next, run}
+use Rattle.ledger.specs.Calls.{Promised}
 use Rattle.formats.specs.declared.fault.TextFault.{TextFault}
 use Rattle.formats.specs.Words.{fields, lines, is_known, index_of}
 use Rattle.formats.specs.Texts.{fault}
@@ -96,6 +101,15 @@ start-monitor c = with-layer monitor (plant-alone c.net c.free)
 
 abbrev pub start-pile : Cell → Pile
 start-pile c = with-layer board (set-by (start-monitor c) 0 (work c.net c.typed-fixed))
+
+pub record BuiltCell (c : Cell) : Type 0 where
+  pub worked : Worked
+  pub works : work c.net c.typed-fixed ≡ Ok worked
+  pub built : Built (start-pile c) (in-force (start-monitor c) 0 c.typed-fixed worked ∷ [])
+  pub promise : (cs : List Call) → Promised (start-pile c) (in-force (start-monitor c) 0 c.typed-fixed worked ∷ []) cs (run (new-ledger (start-pile c)) cs)
+
+abbrev pub Started : Cell → List ℕ → Type 0
+Started c orders = Ok tt ≡ text-check orders → Ok tt ≡ monitor-answer (start-monitor c) c.typed-fixed → BuiltCell c
 
 abbrev pub ran-with : Cell → List ℕ → Answer → List ℕ
 ran-with c orders (Err f) = bad-line (codes "fixed") (fault f.refusal 1 0)

@@ -9,7 +9,8 @@ ghost use Rattle.formats.specs.NetClauses.{net-meaning};
 ghost use Rattle.formats.specs.Texts.{Proper, fault, written};
 ghost use Rattle.net_text.specs.Nets.{net-of};
 ghost use Rattle.panel.specs.Prints.{bad-line};
-ghost use Rattle.panel.specs.Orders.{ran};
+ghost use Rattle.model.specs.Layer.{monitor-answer};
+ghost use Rattle.panel.specs.Orders.{start-monitor, BuiltCell, Started, ran};
 ghost use Rattle.panel.specs.Cells.{cell-of};
 ghost use Rattle.panel.specs.Said.{cell-said};
 ghost use Rattle.panel.specs.Run.{by-rules, printed};
@@ -44,7 +45,7 @@ fn put_bad_fixed(out: &mut Vec<u8>, refusal: Refusal) -> Result<(), AllocError>
 }
 
 // The orders, which have passed the checks of the whole text, on a plant: with a monitor for the fixed rule, a board for the others,
-// and a ledger on top.
+// and a ledger on top. The pile that the ledger is opened on is one that can be built.
 fn run_checked<P: Plant + Drop>(
     out: &mut Vec<u8>,
     said: Said,
@@ -54,7 +55,8 @@ fn run_checked<P: Plant + Drop>(
     requires net { P.Net.net plant ≡ (cell-said said.net_text.now said.net.now said.rules_text.now said.rules.now).net }
     requires tokens { P.Plant.tokens plant ≡ (cell-said said.net_text.now said.net.now said.rules_text.now said.rules.now).free }
     requires checked { Ok tt ≡ text-check orders.now }
-    ensures { OnOk result (out.new.items ≡ out.old.items ++ ran (cell-said said.entry.net_text.now said.entry.net.now said.entry.rules_text.now said.entry.rules.now) orders.now) }
+    ensures printed { OnOk result (out.new.items ≡ out.old.items ++ ran (cell-said said.entry.net_text.now said.entry.net.now said.entry.rules_text.now said.entry.rules.now) orders.now) }
+    ensures built { Ok tt ≡ monitor-answer (start-monitor (cell-said said.entry.net_text.now said.entry.net.now said.entry.rules_text.now said.entry.rules.now)) (cell-said said.entry.net_text.now said.entry.net.now said.entry.rules_text.now said.entry.rules.now).typed-fixed → BuiltCell (cell-said said.entry.net_text.now said.entry.net.now said.entry.rules_text.now said.entry.rules.now) }
 {
     match build(plant, &typed(&said.rules.fixed)) {
         Ok(pile) => {
@@ -74,7 +76,8 @@ fn run_plant<P: Plant + Drop>(
 ) -> Result<(), AllocError>
     requires net { P.Net.net plant ≡ (cell-said said.net_text.now said.net.now said.rules_text.now said.rules.now).net }
     requires tokens { P.Plant.tokens plant ≡ (cell-said said.net_text.now said.net.now said.rules_text.now said.rules.now).free }
-    ensures { OnOk result (out.new.items ≡ out.old.items ++ ran (cell-said said.entry.net_text.now said.entry.net.now said.entry.rules_text.now said.entry.rules.now) orders.now) }
+    ensures printed { OnOk result (out.new.items ≡ out.old.items ++ ran (cell-said said.entry.net_text.now said.entry.net.now said.entry.rules_text.now said.entry.rules.now) orders.now) }
+    ensures built { Ok tt ≡ text-check orders.now → Ok tt ≡ monitor-answer (start-monitor (cell-said said.entry.net_text.now said.entry.net.now said.entry.rules_text.now said.entry.rules.now)) (cell-said said.entry.net_text.now said.entry.net.now said.entry.rules_text.now said.entry.rules.now).typed-fixed → BuiltCell (cell-said said.entry.net_text.now said.entry.net.now said.entry.rules_text.now said.entry.rules.now) }
 {
     match check_text(orders) {
         Ok(()) => run_checked(out, said, plant, orders),
@@ -85,7 +88,8 @@ fn run_plant<P: Plant + Drop>(
 // The orders on the plant that the net text tells of, by its kind.
 fn run_net(out: &mut Vec<u8>, said: Said, orders: &[u8]) -> Result<(), AllocError>
     requires { Proper net-meaning (net-of said.net_text.now said.net.now) }
-    ensures { OnOk result (out.new.items ≡ out.old.items ++ ran (cell-said said.entry.net_text.now said.entry.net.now said.entry.rules_text.now said.entry.rules.now) orders.now) }
+    ensures printed { OnOk result (out.new.items ≡ out.old.items ++ ran (cell-said said.entry.net_text.now said.entry.net.now said.entry.rules_text.now said.entry.rules.now) orders.now) }
+    ensures built { Ok tt ≡ text-check orders.now → Ok tt ≡ monitor-answer (start-monitor (cell-said said.entry.net_text.now said.entry.net.now said.entry.rules_text.now said.entry.rules.now)) (cell-said said.entry.net_text.now said.entry.net.now said.entry.rules_text.now said.entry.rules.now).typed-fixed → BuiltCell (cell-said said.entry.net_text.now said.entry.net.now said.entry.rules_text.now said.entry.rules.now) }
 {
     match said.net.kind {
         Kind::Net => match table::make::make(said.net) {
@@ -113,7 +117,8 @@ fn run_rules(
     orders: &[u8],
 ) -> Result<(), AllocError>
     requires { Proper net-meaning (net-of net_text.now net.now) }
-    ensures { OnOk result (out.new.items ≡ out.old.items ++ by-rules (net-of net_text.now net.now) (read-rules (names (net-of net_text.now net.now)) (place-names (net-of net_text.now net.now)) rules_text.now) orders.now) }
+    ensures printed { OnOk result (out.new.items ≡ out.old.items ++ by-rules (net-of net_text.now net.now) (read-rules (names (net-of net_text.now net.now)) (place-names (net-of net_text.now net.now)) rules_text.now) orders.now) }
+    ensures built { OnOk result ((y : RulesSaid) → read-rules (names (net-of net_text.now net.now)) (place-names (net-of net_text.now net.now)) rules_text.now ≡ Ok y → Started (cell-of (net-of net_text.now net.now) y) orders.now) }
 {
     match read_rules(alloc, net, net_text, rules_text) {
         Ok(rules) => {
@@ -134,6 +139,7 @@ fn run_rules(
 pub fn panel(alloc: Global, net: &[u8], rules: &[u8], orders: &[u8]) -> Result<Vec<u8>, AllocError>
     ensures printed { IfOk result (λ v. v.items ≡ printed net.now rules.now orders.now) }
     ensures proper { (x : NetSaid) (y : RulesSaid) → Proper net-meaning x → net.now ≡ written net-meaning x → Proper (rules-meaning (names x) (place-names x)) y → rules.now ≡ written (rules-meaning (names x) (place-names x)) y → IfOk result (λ v. v.items ≡ ran (cell-of x y) orders.now) }
+    ensures built { (x : NetSaid) (y : RulesSaid) → Proper net-meaning x → net.now ≡ written net-meaning x → Proper (rules-meaning (names x) (place-names x)) y → rules.now ≡ written (rules-meaning (names x) (place-names x)) y → IfOk result (λ v. Started (cell-of x y) orders.now) }
 {
     let mut out = Vec::new(alloc);
     match read_net(alloc, net) {
