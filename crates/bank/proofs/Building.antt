@@ -5,16 +5,16 @@ use Rattle.net_text.specs.declared.net.Move.{Move}
 use Rattle.net_text.specs.Nets.{no_place}
 use Rattle.std.proofs.lemmas.Bool.{cases_lt, le-ltb}
 use Rattle.std.proofs.lemmas.List.{get_or_past}
-use Rattle.bank.specs.Banks.{bit, letter, next_place, arc, bank-net}
-use Rattle.net_text.specs.Nets.{tokens-at, letter_at}
+use Rattle.bank.specs.Banks.{bit, letter, next_place, arc, bank_net}
+use Rattle.net_text.specs.Nets.{tokens_at, letter_at}
 use Rattle.bank.specs.Making.{Single, LettersRead}
-use Rattle.bank.specs.Words.{bit-beyond}
+use Rattle.bank.specs.Words.{bit_beyond}
 
 -- the word w has the tokens of the first i places
 pub record TokensTo (ps : List Place) (i w : ℕ) : Type 0 where
   pub inside : w < 2 ^ i
   pub single : (k : ℕ) → k < i → Single ps k
-  pub bits : (k : ℕ) → k < i → bit w k ≡ tokens-at ps k
+  pub bits : (k : ℕ) → k < i → bit w k ≡ tokens_at ps k
 
 -- the word w has the letters of the first i moves
 pub record LettersTo (ms : List Move) (i w : ℕ) : Type 0 where
@@ -22,10 +22,10 @@ pub record LettersTo (ms : List Move) (i w : ℕ) : Type 0 where
   pub bits : (k : ℕ) → k < i → letter w k ≡ letter_at ms k
 
 -- the net depends on the letters of its moves alone
-letters-net : (n : ℕ) (c d : ℕ → Bool) → ((t : ℕ) → t < n → c t ≡ d t) → bank-net n c ≡ bank-net n d
-letters-net n c d same =
+letters_net : (n : ℕ) (c d : ℕ → Bool) → ((t : ℕ) → t < n → c t ≡ d t) → bank_net n c ≡ bank_net n d
+letters_net n c d same =
     λ i. record {
-      ground-places = n;
+      ground_places = n;
       places = n;
       moves = n;
       controllable = λ t. each t i;
@@ -44,15 +44,15 @@ letters-net n c d same =
         (cases_lt t n)
 
 -- k places were counted, and the moves' letters read into w
-pub made-net : (k w n : ℕ) (ms : List Move) → k ≡ n → length ms ≡ n → LettersRead ms w → bank-net k (letter w) ≡ bank-net n (letter_at ms)
-made-net k w n ms e m read =
-    ap (λ j. bank-net j (letter w)) e ∙ letters-net n (letter w) (letter_at ms) (λ t h. read t (omega arith))
+pub made_net : (k w n : ℕ) (ms : List Move) → k ≡ n → length ms ≡ n → LettersRead ms w → bank_net k (letter w) ≡ bank_net n (letter_at ms)
+made_net k w n ms e m read =
+    ap (λ j. bank_net j (letter w)) e ∙ letters_net n (letter w) (letter_at ms) (λ t h. read t (omega arith))
 
-pub made-tokens : (w : ℕ) (ps : List Place) → w < 2 ^ length ps → ((p : ℕ) → p < length ps → bit w p ≡ tokens-at ps p) → bit w ≡ tokens-at ps
-made-tokens w ps inside read = λ i p. each p i
+pub made_tokens : (w : ℕ) (ps : List Place) → w < 2 ^ length ps → ((p : ℕ) → p < length ps → bit w p ≡ tokens_at ps p) → bit w ≡ tokens_at ps
+made_tokens w ps inside read = λ i p. each p i
   where
-    each : (p : ℕ) → bit w p ≡ tokens-at ps p
+    each : (p : ℕ) → bit w p ≡ tokens_at ps p
     each p =
         ⊎_elim (read p)
-        (λ h. bit-beyond w (length ps) p inside h ∙ sym (ap (λ (x : Place). x.tokens) (get_or_past ps p no_place h)))
+        (λ h. bit_beyond w (length ps) p inside h ∙ sym (ap (λ (x : Place). x.tokens) (get_or_past ps p no_place h)))
         (cases_lt p (length ps))

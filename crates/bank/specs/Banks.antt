@@ -3,10 +3,10 @@
 --   letter       whether the bit t of the word of letters is set
 --   next_place   the place that the move t gives to: the next of its machine, and after the last the first
 --   arc          1 where p is the place q and both p and the move t are there, of n; else 0
---   bank-net     the net of n places, with the controllable moves c
---   net-of       the net of a bank
---   tokens-of    the tokens at each place of a bank
---   ground-fault the fault of the move t at the ground place p
+--   bank_net     the net of n places, with the controllable moves c
+--   net_of       the net of a bank
+--   tokens_of    the tokens at each place of a bank
+--   ground_fault the fault of the move t at the ground place p
 use Rattle.std.specs.Prelude.{ℕ, ◌+◌, ◌*◌, ◌/◌, ◌%◌, ◌^◌, Bool, cond, ◌&&◌, Some, ◌==◌, nat_lt}
 use Rattle.model.specs.declared.refusal.Refusal.{Refusal}
 use Rattle.model.specs.declared.fault.Fault.{Fault}
@@ -25,9 +25,9 @@ next_place t = 4 * (t / 4) + (t % 4 + 1) % 4
 abbrev pub arc : ℕ → ℕ → ℕ → ℕ → ℕ
 arc n p t q = cond (nat_lt p n && (nat_lt t n && p == q)) 1 0
 
-abbrev pub bank-net : ℕ → (ℕ → Bool) → Net
-bank-net n c = record {
-  ground-places = n;
+abbrev pub bank_net : ℕ → (ℕ → Bool) → Net
+bank_net n c = record {
+  ground_places = n;
   places = n;
   moves = n;
   controllable = λ t. nat_lt t n && c t;
@@ -38,11 +38,11 @@ bank-net n c = record {
   row = λ _. 0;
 }
 
-abbrev pub net-of : Bank → Net
-net-of b = bank-net b.count (letter b.letters)
+abbrev pub net_of : Bank → Net
+net_of b = bank_net b.count (letter b.letters)
 
-abbrev pub tokens-of : Bank → ℕ → ℕ
-tokens-of b = bit b.tokens
+abbrev pub tokens_of : Bank → ℕ → ℕ
+tokens_of b = bit b.tokens
 
-abbrev pub ground-fault : Refusal → ℕ → ℕ → Fault
-ground-fault why t p = record { refusal = why; transition = Some t; spot = Some (record { place = p; layer = 0; row = 0 }) }
+abbrev pub ground_fault : Refusal → ℕ → ℕ → Fault
+ground_fault why t p = record { refusal = why; transition = Some t; spot = Some (record { place = p; layer = 0; row = 0 }) }

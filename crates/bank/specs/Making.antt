@@ -8,32 +8,32 @@
 --   Made                  the net of the bank b is that of the moves' letters, and its tokens are those of the places
 --   Makes                 a bank that is made of x, if x is the text of one; else none
 use Rattle.std.specs.Prelude.{◌≡◌, ℕ, ◌%◌, ◌^◌, ◌<◌, ◌≤◌, List, length, Some, None, vec_items, Option}
-use Rattle.formats.specs.declared.kind.Kind.TheVariants.{Bank as bank-kind}
-use Rattle.model.specs.Sizes.{most-places}
+use Rattle.formats.specs.declared.kind.Kind.TheVariants.{Bank as bank_kind}
+use Rattle.model.specs.Sizes.{most_places}
 use Rattle.net_text.specs.declared.net.Place.{Place}
 use Rattle.net_text.specs.declared.net.Move.{Move}
 use Rattle.net_text.specs.declared.net.NetText.{NetText}
-use Rattle.net_text.specs.Nets.{tokens-at, limit-at, letter_at}
+use Rattle.net_text.specs.Nets.{tokens_at, limit_at, letter_at}
 use Rattle.bank.specs.declared.bank.Bank.{Bank}
-use Rattle.bank.specs.Banks.{bit, letter, bank-net, net-of, tokens-of}
+use Rattle.bank.specs.Banks.{bit, letter, bank_net, net_of, tokens_of}
 
 abbrev pub Single : List Place → ℕ → Type 0
-Single ps p = (limit-at ps p ≡ 1) × (tokens-at ps p ≤ 1)
+Single ps p = (limit_at ps p ≡ 1) × (tokens_at ps p ≤ 1)
 
 abbrev pub AllSingle : List Place → Type 0
 AllSingle ps = (p : ℕ) → p < length ps → Single ps p
 
 abbrev pub TokensRead : List Place → Option ℕ → Type 0
-TokensRead ps (Some w) = AllSingle ps × (w < 2 ^ length ps) × ((p : ℕ) → p < length ps → bit w p ≡ tokens-at ps p)
+TokensRead ps (Some w) = AllSingle ps × (w < 2 ^ length ps) × ((p : ℕ) → p < length ps → bit w p ≡ tokens_at ps p)
 TokensRead ps None = AllSingle ps → ⊥
 
 abbrev pub LettersRead : List Move → ℕ → Type 0
 LettersRead ms w = (t : ℕ) → t < length ms → letter w t ≡ letter_at ms t
 
 pub record Shaped (x : NetText) : Type 0 where
-  pub kind : x.kind ≡ bank-kind
+  pub kind : x.kind ≡ bank_kind
   pub some : 4 ≤ length (vec_items x.places)
-  pub few : length (vec_items x.places) ≤ most-places
+  pub few : length (vec_items x.places) ≤ most_places
   pub whole : length (vec_items x.places) % 4 ≡ 0
   pub moves : length (vec_items x.moves) ≡ length (vec_items x.places)
 
@@ -42,8 +42,8 @@ pub record BankText (x : NetText) : Type 0 where
   pub single : AllSingle (vec_items x.places)
 
 pub record Made (x : NetText) (b : Bank) : Type 0 where
-  pub net : net-of b ≡ bank-net (length (vec_items x.places)) (letter_at (vec_items x.moves))
-  pub tokens : tokens-of b ≡ tokens-at (vec_items x.places)
+  pub net : net_of b ≡ bank_net (length (vec_items x.places)) (letter_at (vec_items x.moves))
+  pub tokens : tokens_of b ≡ tokens_at (vec_items x.places)
 
 abbrev pub Makes : NetText → Option Bank → Type 0
 Makes x (Some b) = BankText x × Made x b

@@ -1,10 +1,10 @@
 // What moves in a bank. Each call looks at one place, by its bit.
 ghost use Rattle.std.specs.Prelude.{◌≡◌, ◌^◌, ◌<◌, true, refl};
 ghost use Rattle.model.specs.declared.refusal.Refusal.TheVariants.{NoMove};
-ghost use Rattle.model.specs.Plant.{accepted, fault-of, short-place, over-place, begin-answer, finish-answer, back-answer, begun, finished, gone-back};
-ghost use Rattle.model.specs.Layer.{plant-alone};
-ghost use Rattle.bank.specs.Banks.{bit, net-of, tokens-of, ground-fault};
-ghost use Rattle.bank.specs.Ranging.{tokens-within};
+ghost use Rattle.model.specs.Plant.{accepted, fault_of, short_place, over_place, begin_answer, finish_answer, back_answer, begun, finished, gone_back};
+ghost use Rattle.model.specs.Layer.{plant_alone};
+ghost use Rattle.bank.specs.Banks.{bit, net_of, tokens_of, ground_fault};
+ghost use Rattle.bank.specs.Ranging.{tokens_within};
 
 use crate::bank::Bank;
 use crate::bits::{bit_at, has_bit, with_bit, without_bit};
@@ -15,7 +15,7 @@ use plant::plant::Plant;
 
 // The fault of a move that is missing.
 fn no_move(t: usize) -> Fault
-    ensures { result ≡ fault-of NoMove t }
+    ensures { result ≡ fault_of NoMove t }
 {
     Fault {
         refusal: Refusal::NoMove,
@@ -26,7 +26,7 @@ fn no_move(t: usize) -> Fault
 
 // The fault of the move `t` at the place `p`.
 fn fault_at(refusal: Refusal, t: usize, p: usize) -> Fault
-    ensures { result ≡ ground-fault refusal t p }
+    ensures { result ≡ ground_fault refusal t p }
 {
     Fault {
         refusal,
@@ -43,7 +43,7 @@ impl Bank {
     // The place that is short of what the move `t` takes.
     fn short(&self, t: usize) -> Option<usize>
         requires { t < self.now.count }
-        ensures { result ≡ short-place (net-of self.now) (tokens-of self.now) t }
+        ensures { result ≡ short_place (net_of self.now) (tokens_of self.now) t }
     {
         if has_bit(self.tokens, t) {
             None
@@ -55,7 +55,7 @@ impl Bank {
     // The place that has no room for what the move `t` gives.
     fn full_after(&self, t: usize) -> Option<usize>
         requires { t < self.now.count }
-        ensures { result ≡ over-place (net-of self.now) (tokens-of self.now) (λ p. (net-of self.now).give p t) }
+        ensures { result ≡ over_place (net_of self.now) (tokens_of self.now) (λ p. (net_of self.now).give p t) }
     {
         let p = next_place(t);
         if has_bit(self.tokens, p) {
@@ -68,7 +68,7 @@ impl Bank {
     // The place that has no room for what the move `t` takes.
     fn full_before(&self, t: usize) -> Option<usize>
         requires { t < self.now.count }
-        ensures { result ≡ over-place (net-of self.now) (tokens-of self.now) (λ p. (net-of self.now).take p t) }
+        ensures { result ≡ over_place (net_of self.now) (tokens_of self.now) (λ p. (net_of self.now).take p t) }
     {
         if has_bit(self.tokens, t) {
             Some(t)
@@ -79,8 +79,8 @@ impl Bank {
 
     // The tokens once the move `t` has begun.
     fn taken(&self, t: usize) -> u32
-        requires { accepted (begin-answer (net-of self.now) (tokens-of self.now) t) ≡ true }
-        ensures after { bit result ≡ begun (net-of self.now) (tokens-of self.now) t }
+        requires { accepted (begin_answer (net_of self.now) (tokens_of self.now) t) ≡ true }
+        ensures after { bit result ≡ begun (net_of self.now) (tokens_of self.now) t }
         ensures inside { result < 2 ^ self.now.count }
     {
         without_bit(self.tokens, t)
@@ -88,8 +88,8 @@ impl Bank {
 
     // The tokens once the move `t` has finished.
     fn given(&self, t: usize) -> u32
-        requires { accepted (finish-answer (net-of self.now) (tokens-of self.now) t) ≡ true }
-        ensures after { bit result ≡ finished (net-of self.now) (tokens-of self.now) t }
+        requires { accepted (finish_answer (net_of self.now) (tokens_of self.now) t) ≡ true }
+        ensures after { bit result ≡ finished (net_of self.now) (tokens_of self.now) t }
         ensures inside { result < 2 ^ self.now.count }
     {
         with_bit(self.tokens, next_place(t))
@@ -97,8 +97,8 @@ impl Bank {
 
     // The tokens once the move `t` has gone back.
     fn returned(&self, t: usize) -> u32
-        requires { accepted (back-answer (net-of self.now) (tokens-of self.now) t) ≡ true }
-        ensures after { bit result ≡ gone-back (net-of self.now) (tokens-of self.now) t }
+        requires { accepted (back_answer (net_of self.now) (tokens_of self.now) t) ≡ true }
+        ensures after { bit result ≡ gone_back (net_of self.now) (tokens_of self.now) t }
         ensures inside { result < 2 ^ self.now.count }
     {
         with_bit(self.tokens, t)
@@ -106,13 +106,13 @@ impl Bank {
 }
 
 impl Plant for Bank {
-    ghost tokens = { tokens-of };
+    ghost tokens = { tokens_of };
 
-    ghost pile = { λ s. plant-alone (net-of s) (tokens-of s) };
+    ghost pile = { λ s. plant_alone (net_of s) (tokens_of s) };
 
     ghost stacked = { λ _. (refl, refl) };
 
-    ghost within = { λ s p. tokens-within s.count s.tokens p s.inside };
+    ghost within = { λ s p. tokens_within s.count s.tokens p s.inside };
 
     fn free(&self, p: usize) -> u32 {
         if p < self.count {

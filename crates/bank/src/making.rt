@@ -1,6 +1,6 @@
 // A bank from the records of a net text.
 ghost use Rattle.std.specs.Prelude.{◌≡◌, ℕ, ◌+◌, ◌^◌, ◌<◌, ◌≤◌, length, if◌then◌else◌, MatchBool};
-ghost use Rattle.model.specs.Sizes.{most-places, most-moves};
+ghost use Rattle.model.specs.Sizes.{most_places, most_moves};
 ghost use Rattle.bank.specs.Banks.{bit};
 ghost use Rattle.bank.specs.Making.{TokensRead, LettersRead, Shaped, Makes};
 
@@ -22,7 +22,7 @@ fn with_next(w: u32, p: usize, on: bool) -> u32
 
 // The tokens of the places as bits; none if a place has another limit than 1, or more tokens.
 fn read_tokens(places: &[Place]) -> Option<u32>
-    requires { length places.now ≤ most-places }
+    requires { length places.now ≤ most_places }
     ensures { TokensRead places.now result }
 {
     let mut word = 0;
@@ -37,7 +37,7 @@ fn read_tokens(places: &[Place]) -> Option<u32>
 
 // The letters of the moves as bits.
 fn read_letters(moves: &[Move]) -> u32
-    requires { length moves.now ≤ most-moves }
+    requires { length moves.now ≤ most_moves }
     ensures { LettersRead moves.now result }
 {
     let mut word = 0;

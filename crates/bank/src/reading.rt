@@ -1,7 +1,7 @@
 // The reading part of a bank.
 ghost use Rattle.std.specs.Prelude.{◌≡◌};
-ghost use Rattle.bank.specs.Banks.{next_place, net-of, letter};
-ghost use Rattle.bank.specs.Ranging.{bank-ranges};
+ghost use Rattle.bank.specs.Banks.{next_place, net_of, letter};
+ghost use Rattle.bank.specs.Ranging.{bank_ranges};
 ghost use Rattle.std.proofs.Common.{arith};
 
 use crate::bank::Bank;
@@ -16,9 +16,9 @@ pub(crate) fn next_place(t: usize) -> usize
 }
 
 impl Net for Bank {
-    ghost net = { net-of };
+    ghost net = { net_of };
 
-    ghost sound = { λ s. bank-ranges s.count (letter s.letters) s.some s.few };
+    ghost sound = { λ s. bank_ranges s.count (letter s.letters) s.some s.few };
 
     ghost layered = { λ _ _. Prim.omega arith };
 

@@ -1,41 +1,41 @@
 -- The marked cases as one list: a sum that is read, and what the model has of rules, settings and calls.
 --   Seen             what came of a step: a sum's weights of the places it names, or an outcome of the model
 --   Case             what came, and what must
---   sum-weighs       what reading a sum over places of these names comes to
---   seen-of          a case of the model, as one of this list
---   marked-cases     the list
+--   sum_weighs       what reading a sum over places of these names comes to
+--   seen_of          a case of the model, as one of this list
+--   marked_cases     the list
 --   AsMarked         each case of a list came out as it must
 use Rattle.std.specs.Prelude.{◌≡◌, ℕ, zero, suc, List, [], ◌∷◌, map, length, ℤ, pos, Ok, Err, Result, codes}
-use Rattle.model.specs.Refusals.{refusal-number}
+use Rattle.model.specs.Refusals.{refusal_number}
 use Rattle.model.specs.Cases as model
 use Rattle.formats.specs.Texts.{Check}
-use Rattle.formats.specs.Sums.{Part, weight, read-sum}
+use Rattle.formats.specs.Sums.{Part, weight, read_sum}
 
 pub data Seen : Type 0 where
   weights : List ℤ → Seen
-  refused-at : ℕ → ℕ → Seen
+  refused_at : ℕ → ℕ → Seen
   outcome : model.Outcome → Seen
 
 pub record Case : Type 0 where
   pub came : List Seen
   pub must : List Seen
 
-abbrev pub sum-seen : ℕ → Result (List Part) Check → Seen
-sum-seen k (Ok qs) = weights (model.weights-from (weight qs) 0 k)
-sum-seen k (Err c) = refused-at (refusal-number c.refusal) c.byte
+abbrev pub sum_seen : ℕ → Result (List Part) Check → Seen
+sum_seen k (Ok qs) = weights (model.weights_from (weight qs) 0 k)
+sum_seen k (Err c) = refused_at (refusal_number c.refusal) c.byte
 
 -- the sum stands at byte 0 of its text
-abbrev pub sum-weighs : List (List ℕ) → List ℕ → List Seen
-sum-weighs names sum = sum-seen (length names) (read-sum names 0 sum) ∷ []
+abbrev pub sum_weighs : List (List ℕ) → List ℕ → List Seen
+sum_weighs names sum = sum_seen (length names) (read_sum names 0 sum) ∷ []
 
-abbrev pub seen-of : model.Case → Case
-seen-of c = record { came = map outcome c.came; must = map outcome c.must }
+abbrev pub seen_of : model.Case → Case
+seen_of c = record { came = map outcome c.came; must = map outcome c.must }
 
-abbrev pub marked-cases : List Case
-marked-cases =
+abbrev pub marked_cases : List Case
+marked_cases =
     -- A+2*B-A weighs A 0 and B 2
-    record { came = sum-weighs (codes "A" ∷ codes "B" ∷ []) (codes "A+2*B-A"); must = weights (pos 0 ∷ pos 2 ∷ []) ∷ [] }
-    ∷ map seen-of model.marked-cases
+    record { came = sum_weighs (codes "A" ∷ codes "B" ∷ []) (codes "A+2*B-A"); must = weights (pos 0 ∷ pos 2 ∷ []) ∷ [] }
+    ∷ map seen_of model.marked_cases
 
 abbrev pub AsMarked : List Case → Type 0
 AsMarked [] = Unit {0}

@@ -1,9 +1,9 @@
 // The marked cases, as one list with one statement over the definitions that the code's contracts use.
-ghost use Rattle.cases.specs.Marked.{AsMarked, marked-cases};
+ghost use Rattle.cases.specs.Marked.{AsMarked, marked_cases};
 
 // Each case of the list comes out as it must.
 pub fn marked_cases_hold() -> u8
-    ensures { AsMarked marked-cases }
+    ensures { AsMarked marked_cases }
 {
     0
 }

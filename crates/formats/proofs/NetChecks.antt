@@ -6,80 +6,80 @@ use Rattle.std.proofs.lemmas.Bool.{false≢true}
 use Rattle.formats.specs.declared.kind.Kind.{Kind}
 use Rattle.formats.specs.declared.kind.Kind.TheVariants.{Net, Bank, Line}
 use Rattle.formats.specs.Words.{none, value, index_of}
-use Rattle.formats.specs.NetText.{Place, Move, Arc, NetText, place-names, move-names, names, kind-word, Shaped, Complete}
-use Rattle.formats.specs.NetClauses.{Shape, NewPair, place-clauses, move-clauses, arc-clauses, clauses}
-use Rattle.formats.specs.NetClauses.Shape.{a-plant, a-place, a_move, an-arc, no_record}
-use Rattle.formats.specs.ReadNet.{checks, place-checks, move-checks, arc-checks, is-kind, is-net, is-new-pair, is-shaped, is_whole}
+use Rattle.formats.specs.NetText.{Place, Move, Arc, NetText, place_names, move_names, names, kind_word, Shaped, Complete}
+use Rattle.formats.specs.NetClauses.{Shape, NewPair, place_clauses, move_clauses, arc_clauses, clauses}
+use Rattle.formats.specs.NetClauses.Shape.{a_plant, a_place, a_move, an_arc, no_record}
+use Rattle.formats.specs.ReadNet.{checks, place_checks, move_checks, arc_checks, is_kind, is_net, is_new_pair, is_shaped, is_whole}
 use Rattle.formats.proofs.Ordered.{Agree}
-use Rattle.formats.proofs.Tests.{d-same, d-and, d-or, d-not, d-leb, d-ltb, d-eqb, d-all, d-no, d-name, d-new, d-known, d-numeral, d-none}
+use Rattle.formats.proofs.Tests.{d_same, d_and, d_or, d_not, d_leb, d_ltb, d_eqb, d_all, d_no, d_name, d_new, d_known, d_numeral, d_none}
 
 -- ---- the tests of the tables
-kind-from : (f : List ℕ) → (f ≡ codes "net") ⊎ ((f ≡ codes "bank") ⊎ (f ≡ codes "line")) → (k : Kind) × (f ≡ kind-word k)
-kind-from f (inl e) = (Net, e)
-kind-from f (inr (inl e)) = (Bank, e)
-kind-from f (inr (inr e)) = (Line, e)
+kind_from : (f : List ℕ) → (f ≡ codes "net") ⊎ ((f ≡ codes "bank") ⊎ (f ≡ codes "line")) → (k : Kind) × (f ≡ kind_word k)
+kind_from f (inl e) = (Net, e)
+kind_from f (inr (inl e)) = (Bank, e)
+kind_from f (inr (inr e)) = (Line, e)
 
-kind-to : (f : List ℕ) (k : Kind) → f ≡ kind-word k → (f ≡ codes "net") ⊎ ((f ≡ codes "bank") ⊎ (f ≡ codes "line"))
-kind-to f Net e = inl e
-kind-to f Bank e = inr (inl e)
-kind-to f Line e = inr (inr e)
+kind_to : (f : List ℕ) (k : Kind) → f ≡ kind_word k → (f ≡ codes "net") ⊎ ((f ≡ codes "bank") ⊎ (f ≡ codes "line"))
+kind_to f Net e = inl e
+kind_to f Bank e = inr (inl e)
+kind_to f Line e = inr (inr e)
 
-d-kind : (f : List ℕ) → Decides (is-kind f) ((k : Kind) × (f ≡ kind-word k))
-d-kind f =
-    d-same (is-kind f)
-    (d-or (bytes_eq f (codes "net")) (bytes_eq f (codes "bank") || bytes_eq f (codes "line")) (bytes_eq-Decides f (codes "net"))
-    (d-or (bytes_eq f (codes "bank")) (bytes_eq f (codes "line")) (bytes_eq-Decides f (codes "bank")) (bytes_eq-Decides f (codes "line"))))
-    (kind-from f) (λ h. kind-to f h.0 h.1)
+d_kind : (f : List ℕ) → Decides (is_kind f) ((k : Kind) × (f ≡ kind_word k))
+d_kind f =
+    d_same (is_kind f)
+    (d_or (bytes_eq f (codes "net")) (bytes_eq f (codes "bank") || bytes_eq f (codes "line")) (bytes_eq-Decides f (codes "net"))
+    (d_or (bytes_eq f (codes "bank")) (bytes_eq f (codes "line")) (bytes_eq-Decides f (codes "bank")) (bytes_eq-Decides f (codes "line"))))
+    (kind_from f) (λ h. kind_to f h.0 h.1)
 
-abbrev kind-number : Kind → ℕ
-kind-number Net = 0
-kind-number Bank = 1
-kind-number Line = 2
+abbrev kind_number : Kind → ℕ
+kind_number Net = 0
+kind_number Bank = 1
+kind_number Line = 2
 
-d-net : (k : Kind) → Decides (is-net k) (k ≡ Net)
-d-net Net = (λ e. refl, λ e. refl)
-d-net Bank = (λ e. absurd (false≢true e), λ e. absurd (omega (arith, ap kind-number e)))
-d-net Line = (λ e. absurd (false≢true e), λ e. absurd (omega (arith, ap kind-number e)))
+d_net : (k : Kind) → Decides (is_net k) (k ≡ Net)
+d_net Net = (λ e. refl, λ e. refl)
+d_net Bank = (λ e. absurd (false≢true e), λ e. absurd (omega (arith, ap kind_number e)))
+d_net Line = (λ e. absurd (false≢true e), λ e. absurd (omega (arith, ap kind_number e)))
 
-d-pair : (xs : List Arc) (p m : ℕ) → Decides (is-new-pair xs p m) (NewPair xs p m)
-d-pair xs p m =
-    d-all (λ (a : Arc). not (eqb a.place p && eqb a.move m)) (λ (a : Arc). (a.place ≡ p) × (a.move ≡ m) → ⊥)
-    (λ (a : Arc). d-not (eqb a.place p && eqb a.move m) (d-and (eqb a.place p) (eqb a.move m) (d-eqb a.place p) (d-eqb a.move m))) xs
+d_pair : (xs : List Arc) (p m : ℕ) → Decides (is_new_pair xs p m) (NewPair xs p m)
+d_pair xs p m =
+    d_all (λ (a : Arc). not (eqb a.place p && eqb a.move m)) (λ (a : Arc). (a.place ≡ p) × (a.move ≡ m) → ⊥)
+    (λ (a : Arc). d_not (eqb a.place p && eqb a.move m) (d_and (eqb a.place p) (eqb a.move m) (d_eqb a.place p) (d_eqb a.move m))) xs
 
 three : 10 ^ 3 ≤ 2 ^ 64
 three = omega arith
 
 -- ---- the tables
-place-agree : (x : NetText) (at : ℕ) (n t l : List ℕ) → Agree (place-checks x at n t l) (place-clauses x at n t l)
-place-agree x at n t l = (
-  d-and (none x.moves) (none x.arcs) (d-none x.moves) (d-none x.arcs),
+place_agree : (x : NetText) (at : ℕ) (n t l : List ℕ) → Agree (place_checks x at n t l) (place_clauses x at n t l)
+place_agree x at n t l = (
+  d_and (none x.moves) (none x.arcs) (d_none x.moves) (d_none x.arcs),
   refl,
   refl,
   (
-    d-ltb (length x.places) 32,
+    d_ltb (length x.places) 32,
     refl,
     refl,
     (
-      d-name n,
+      d_name n,
       refl,
       refl,
       (
-        d-new (names x) n,
+        d_new (names x) n,
         refl,
         refl,
         (
-          d-numeral 3 t (omega arith) three,
+          d_numeral 3 t (omega arith) three,
           refl,
           refl,
           (
-            d-numeral 3 l (omega arith) three,
+            d_numeral 3 l (omega arith) three,
             refl,
             refl,
             (
-              d-leb 1 (value l),
+              d_leb 1 (value l),
               refl,
               refl,
-              (d-leb (value t) (value l), refl, refl, tt),
+              (d_leb (value t) (value l), refl, refl, tt),
             ),
           ),
         ),
@@ -88,65 +88,65 @@ place-agree x at n t l = (
   ),
 )
 
-move-agree : (x : NetText) (at : ℕ) (n k : List ℕ) → Agree (move-checks x at n k) (move-clauses x at n k)
-move-agree x at n k = (
-  d-none x.arcs,
+move_agree : (x : NetText) (at : ℕ) (n k : List ℕ) → Agree (move_checks x at n k) (move_clauses x at n k)
+move_agree x at n k = (
+  d_none x.arcs,
   refl,
   refl,
   (
-    d-ltb (length x.moves) 32,
+    d_ltb (length x.moves) 32,
     refl,
     refl,
     (
-      d-name n,
+      d_name n,
       refl,
       refl,
       (
-        d-new (names x) n,
+        d_new (names x) n,
         refl,
         refl,
-        (d-or (bytes_eq k (codes "c")) (bytes_eq k (codes "u")) (bytes_eq-Decides k (codes "c")) (bytes_eq-Decides k (codes "u")), refl, refl, tt),
+        (d_or (bytes_eq k (codes "c")) (bytes_eq k (codes "u")) (bytes_eq-Decides k (codes "c")) (bytes_eq-Decides k (codes "u")), refl, refl, tt),
       ),
     ),
   ),
 )
 
-arc-agree : (x : NetText) (at : ℕ) (p m t g : List ℕ) → Agree (arc-checks x at p m t g) (arc-clauses x at p m t g)
-arc-agree x at p m t g =
-    let i = index_of (place-names x) p in
-    let j = index_of (move-names x) m in (
-      d-name p,
+arc_agree : (x : NetText) (at : ℕ) (p m t g : List ℕ) → Agree (arc_checks x at p m t g) (arc_clauses x at p m t g)
+arc_agree x at p m t g =
+    let i = index_of (place_names x) p in
+    let j = index_of (move_names x) m in (
+      d_name p,
       refl,
       refl,
       (
-        d-known (place-names x) p,
+        d_known (place_names x) p,
         refl,
         refl,
         (
-          d-name m,
+          d_name m,
           refl,
           refl,
           (
-            d-known (move-names x) m,
+            d_known (move_names x) m,
             refl,
             refl,
             (
-              d-numeral 1 t (omega arith) (omega arith),
+              d_numeral 1 t (omega arith) (omega arith),
               refl,
               refl,
               (
-                d-numeral 1 g (omega arith) (omega arith),
+                d_numeral 1 g (omega arith) (omega arith),
                 refl,
                 refl,
                 (
-                  d-leb 1 (value t + value g),
+                  d_leb 1 (value t + value g),
                   refl,
                   refl,
                   (
-                    d-pair x.arcs i j,
+                    d_pair x.arcs i j,
                     refl,
                     refl,
-                    (d-net x.kind, refl, refl, tt),
+                    (d_net x.kind, refl, refl, tt),
                   ),
                 ),
               ),
@@ -157,31 +157,31 @@ arc-agree x at p m t g =
     )
 
 refused : Decides false ⊥
-refused = d-no false refl
+refused = d_no false refl
 
 pub agree : (s : Option NetText) (at : ℕ) (l : Shape) → Agree (checks s at l) (clauses s at l)
-agree None at (a-plant k) = (d-kind k, refl, refl, tt)
-agree None at (a-place n t l) = (refused, refl, refl, tt)
+agree None at (a_plant k) = (d_kind k, refl, refl, tt)
+agree None at (a_place n t l) = (refused, refl, refl, tt)
 agree None at (a_move n k) = (refused, refl, refl, tt)
-agree None at (an-arc p m t g) = (refused, refl, refl, tt)
+agree None at (an_arc p m t g) = (refused, refl, refl, tt)
 agree None at no_record = (refused, refl, refl, tt)
-agree (Some x) at (a-plant k) = (refused, refl, refl, tt)
-agree (Some x) at (a-place n t l) = place-agree x at n t l
-agree (Some x) at (a_move n k) = move-agree x at n k
-agree (Some x) at (an-arc p m t g) = arc-agree x at p m t g
+agree (Some x) at (a_plant k) = (refused, refl, refl, tt)
+agree (Some x) at (a_place n t l) = place_agree x at n t l
+agree (Some x) at (a_move n k) = move_agree x at n k
+agree (Some x) at (an_arc p m t g) = arc_agree x at p m t g
 agree (Some x) at no_record = (refused, refl, refl, tt)
 
 -- ---- the end
-d-shaped : (k : Kind) (ps : List Place) (ms : List Move) → Decides (is-shaped k ps ms) (Shaped k ps ms)
-d-shaped Net ps ms = (λ e. tt, λ h. refl)
-d-shaped Bank ps ms =
-    d-same (is-shaped Bank ps ms)
-    (d-and _ _ (d-eqb _ 0) (d-and _ _ (d-eqb (length ms) (length ps)) (d-all (λ (p : Place). eqb p.limit 1) (λ (p : Place). p.limit ≡ 1) (λ (p : Place). d-eqb p.limit 1) ps)))
+d_shaped : (k : Kind) (ps : List Place) (ms : List Move) → Decides (is_shaped k ps ms) (Shaped k ps ms)
+d_shaped Net ps ms = (λ e. tt, λ h. refl)
+d_shaped Bank ps ms =
+    d_same (is_shaped Bank ps ms)
+    (d_and _ _ (d_eqb _ 0) (d_and _ _ (d_eqb (length ms) (length ps)) (d_all (λ (p : Place). eqb p.limit 1) (λ (p : Place). p.limit ≡ 1) (λ (p : Place). d_eqb p.limit 1) ps)))
     (λ h. (h.0, h.1.0, h.1.1)) (λ h. (h.0, (h.1, h.2)))
-d-shaped Line ps ms = d-eqb (length ms) (length ps + 1)
+d_shaped Line ps ms = d_eqb (length ms) (length ps + 1)
 
-pub d-whole : (x : NetText) → Decides (is_whole x) (Complete x)
-d-whole x =
-    d-same (is_whole x)
-    (d-and _ _ (d-leb 1 (length x.places)) (d-and _ _ (d-leb 1 (length x.moves)) (d-shaped x.kind x.places x.moves)))
+pub d_whole : (x : NetText) → Decides (is_whole x) (Complete x)
+d_whole x =
+    d_same (is_whole x)
+    (d_and _ _ (d_leb 1 (length x.places)) (d_and _ _ (d_leb 1 (length x.moves)) (d_shaped x.kind x.places x.moves)))
     (λ h. (h.0, h.1.0, h.1.1)) (λ h. (h.0, (h.1, h.2)))

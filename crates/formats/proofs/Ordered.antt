@@ -2,8 +2,8 @@
 use Rattle.std.proofs.Common.{◌≡◌, ℕ, Bool, true, false, cond, List, [], ◌∷◌, ◌++◌, Some, None, Decides, sym, refl, ap, ◌∙◌, inl, inr, arith}
 use Rattle.std.proofs.lemmas.Bool.{cond-true, cond-false}
 use Rattle.model.specs.declared.refusal.Refusal.{Refusal}
-use Rattle.formats.specs.Texts.{Check, first-failed, Clause, Keeps, Breaks}
-use Rattle.formats.proofs.Tests.{d-fails}
+use Rattle.formats.specs.Texts.{Check, first_failed, Clause, Keeps, Breaks}
+use Rattle.formats.proofs.Tests.{d_fails}
 
 abbrev pub Agree : List Check → List Clause → Type 0
 Agree [] [] = Unit {0}
@@ -12,47 +12,47 @@ Agree (c ∷ cs) [] = ⊥
 Agree (c ∷ cs) (r ∷ rs) = Decides c.passes r.asks × (c.refusal ≡ r.refusal) × (c.byte ≡ r.byte) × Agree cs rs
 
 -- ---- from the checks to the clauses, and back
-pub keeps : (cs : List Check) (rs : List Clause) → Agree cs rs → first-failed cs ≡ None → Keeps rs
+pub keeps : (cs : List Check) (rs : List Clause) → Agree cs rs → first_failed cs ≡ None → Keeps rs
 keeps [] [] a e = tt
 keeps [] (r ∷ rs) a e = absurd a
 keeps (c ∷ cs) [] a e = absurd a
 keeps (c ∷ cs) (r ∷ rs) a e = go c.passes refl e (λ q. keeps cs rs a.3 q)
   where
-    go : (b : Bool) → c.passes ≡ b → cond b (first-failed cs) (Some c) ≡ None → (first-failed cs ≡ None → Keeps rs) → r.asks × Keeps rs
+    go : (b : Bool) → c.passes ≡ b → cond b (first_failed cs) (Some c) ≡ None → (first_failed cs ≡ None → Keeps rs) → r.asks × Keeps rs
     go true p q k = (a.0.0 p, k q)
     go false p q k = let z : ◌≡◌ {A = ℕ} 0 1 = cc in absurd (omega arith)
 
-pub passes : (cs : List Check) (rs : List Clause) → Agree cs rs → Keeps rs → first-failed cs ≡ None
+pub passes : (cs : List Check) (rs : List Clause) → Agree cs rs → Keeps rs → first_failed cs ≡ None
 passes [] [] a k = refl
 passes [] (r ∷ rs) a k = absurd a
 passes (c ∷ cs) [] a k = absurd a
-passes (c ∷ cs) (r ∷ rs) a k = cond-true _ (first-failed cs) (Some c) (a.0.1 k.0) ∙ passes cs rs a.3 k.1
+passes (c ∷ cs) (r ∷ rs) a k = cond-true _ (first_failed cs) (Some c) (a.0.1 k.0) ∙ passes cs rs a.3 k.1
 
-pub breaks : (cs : List Check) (rs : List Clause) (d : Check) → Agree cs rs → first-failed cs ≡ Some d → Breaks rs d.refusal d.byte
+pub breaks : (cs : List Check) (rs : List Clause) (d : Check) → Agree cs rs → first_failed cs ≡ Some d → Breaks rs d.refusal d.byte
 breaks [] [] d a e = let z : ◌≡◌ {A = ℕ} 0 1 = cc in absurd (omega arith)
 breaks [] (r ∷ rs) d a e = absurd a
 breaks (c ∷ cs) [] d a e = absurd a
 breaks (c ∷ cs) (r ∷ rs) d a e = go c.passes refl e (λ q. breaks cs rs d a.3 q)
   where
-    go : (b : Bool) → c.passes ≡ b → cond b (first-failed cs) (Some c) ≡ Some d → (first-failed cs ≡ Some d → Breaks rs d.refusal d.byte) → Breaks (r ∷ rs) d.refusal d.byte
+    go : (b : Bool) → c.passes ≡ b → cond b (first_failed cs) (Some c) ≡ Some d → (first_failed cs ≡ Some d → Breaks rs d.refusal d.byte) → Breaks (r ∷ rs) d.refusal d.byte
     go true p q k = inr (a.0.0 p, k q)
     go false p q k =
         let same : c ≡ d = cc in
-        inl (d-fails c.passes a.0 p, sym a.1 ∙ ap (λ (x : Check). x.refusal) same, sym a.2 ∙ ap (λ (x : Check). x.byte) same)
+        inl (d_fails c.passes a.0 p, sym a.1 ∙ ap (λ (x : Check). x.refusal) same, sym a.2 ∙ ap (λ (x : Check). x.byte) same)
 
-pub fails : (cs : List Check) (rs : List Clause) (n : Refusal) (i : ℕ) → Agree cs rs → Breaks rs n i → (d : Check) × (first-failed cs ≡ Some d) × (d.refusal ≡ n) × (d.byte ≡ i)
+pub fails : (cs : List Check) (rs : List Clause) (n : Refusal) (i : ℕ) → Agree cs rs → Breaks rs n i → (d : Check) × (first_failed cs ≡ Some d) × (d.refusal ≡ n) × (d.byte ≡ i)
 fails [] [] n i a b = absurd b
 fails [] (r ∷ rs) n i a b = absurd a
 fails (c ∷ cs) [] n i a b = absurd a
-fails (c ∷ cs) (r ∷ rs) n i a (inl b) = (c, cond-false _ (first-failed cs) (Some c) (no c.passes refl), a.1 ∙ b.1, a.2 ∙ b.2)
+fails (c ∷ cs) (r ∷ rs) n i a (inl b) = (c, cond-false _ (first_failed cs) (Some c) (no c.passes refl), a.1 ∙ b.1, a.2 ∙ b.2)
   where
     no : (t : Bool) → c.passes ≡ t → c.passes ≡ false
     no true e = absurd (b.0 (a.0.0 e))
     no false e = e
-fails (c ∷ cs) (r ∷ rs) n i a (inr b) = let f = fails cs rs n i a.3 b.1 in (f.0, cond-true _ (first-failed cs) (Some c) (a.0.1 b.0) ∙ f.1, f.2, f.3)
+fails (c ∷ cs) (r ∷ rs) n i a (inr b) = let f = fails cs rs n i a.3 b.1 in (f.0, cond-true _ (first_failed cs) (Some c) (a.0.1 b.0) ∙ f.1, f.2, f.3)
 
-pub agree-append : (cs ds : List Check) (rs qs : List Clause) → Agree cs rs → Agree ds qs → Agree (cs ++ ds) (rs ++ qs)
-agree-append [] ds [] qs a b = b
-agree-append [] ds (r ∷ rs) qs a b = absurd a
-agree-append (c ∷ cs) ds [] qs a b = absurd a
-agree-append (c ∷ cs) ds (r ∷ rs) qs a b = (a.0, a.1, a.2, agree-append cs ds rs qs a.3 b)
+pub agree_append : (cs ds : List Check) (rs qs : List Clause) → Agree cs rs → Agree ds qs → Agree (cs ++ ds) (rs ++ qs)
+agree_append [] ds [] qs a b = b
+agree_append [] ds (r ∷ rs) qs a b = absurd a
+agree_append (c ∷ cs) ds [] qs a b = absurd a
+agree_append (c ∷ cs) ds (r ∷ rs) qs a b = (a.0, a.1, a.2, agree_append cs ds rs qs a.3 b)

@@ -8,7 +8,7 @@
 --   Complete x       x has what the end of a net text asks for
 use Rattle.std.specs.Prelude.{◌≡◌, ℕ, ◌+◌, ◌%◌, ◌^◌, ◌<◌, ◌≤◌, Bool, true, false, ◌⊎◌, List, [], ◌∷◌, ◌++◌, map, length, codes, decimal, slice_index_or}
 use Rattle.std.specs.List.{AllByRecursion}
-use Rattle.model.specs.Sizes.{most-places, most-moves, count-digits, arc-digits}
+use Rattle.model.specs.Sizes.{most_places, most_moves, count_digits, arc_digits}
 use Rattle.formats.specs.declared.kind.Kind.{Kind}
 use Rattle.formats.specs.declared.kind.Kind.TheVariants.{Net, Bank, Line}
 use Rattle.formats.specs.Words.{IsName, Apart, AllDifferent}
@@ -37,56 +37,56 @@ pub record NetText : Type 0 where
 abbrev pub net : Kind → List Place → List Move → List Arc → NetText
 net k ps ms xs = record { kind = k; places = ps; moves = ms; arcs = xs }
 
-abbrev pub place-names : NetText → List (List ℕ)
-place-names x = map (λ (p : Place). p.name) x.places
+abbrev pub place_names : NetText → List (List ℕ)
+place_names x = map (λ (p : Place). p.name) x.places
 
-abbrev pub move-names : NetText → List (List ℕ)
-move-names x = map (λ (m : Move). m.name) x.moves
+abbrev pub move_names : NetText → List (List ℕ)
+move_names x = map (λ (m : Move). m.name) x.moves
 
 abbrev pub names : NetText → List (List ℕ)
-names x = place-names x ++ move-names x
+names x = place_names x ++ move_names x
 
 -- ---- how it is written: the fields of each line
-abbrev pub kind-word : Kind → List ℕ
-kind-word Net = codes "net"
-kind-word Bank = codes "bank"
-kind-word Line = codes "line"
+abbrev pub kind_word : Kind → List ℕ
+kind_word Net = codes "net"
+kind_word Bank = codes "bank"
+kind_word Line = codes "line"
 
-abbrev pub letter-of : Bool → List ℕ
-letter-of true = codes "c"
-letter-of false = codes "u"
+abbrev pub letter_of : Bool → List ℕ
+letter_of true = codes "c"
+letter_of false = codes "u"
 
-abbrev pub plant-row : Kind → List (List ℕ)
-plant-row k = codes "plant" ∷ kind-word k ∷ []
+abbrev pub plant_row : Kind → List (List ℕ)
+plant_row k = codes "plant" ∷ kind_word k ∷ []
 
-abbrev pub place-row : Place → List (List ℕ)
-place-row p = codes "place" ∷ p.name ∷ decimal p.tokens ∷ decimal p.limit ∷ []
+abbrev pub place_row : Place → List (List ℕ)
+place_row p = codes "place" ∷ p.name ∷ decimal p.tokens ∷ decimal p.limit ∷ []
 
 abbrev pub move_row : Move → List (List ℕ)
-move_row m = codes "move" ∷ m.name ∷ letter-of m.controllable ∷ []
+move_row m = codes "move" ∷ m.name ∷ letter_of m.controllable ∷ []
 
 -- with the names of all places and moves
-abbrev pub arc-row : List (List ℕ) → List (List ℕ) → Arc → List (List ℕ)
-arc-row ps ms a = codes "arc" ∷ slice_index_or ps a.place [] ∷ slice_index_or ms a.move [] ∷ decimal a.take ∷ decimal a.give ∷ []
+abbrev pub arc_row : List (List ℕ) → List (List ℕ) → Arc → List (List ℕ)
+arc_row ps ms a = codes "arc" ∷ slice_index_or ps a.place [] ∷ slice_index_or ms a.move [] ∷ decimal a.take ∷ decimal a.give ∷ []
 
 abbrev pub rows : NetText → List (List (List ℕ))
-rows x = plant-row x.kind ∷ (map place-row x.places ++ (map move_row x.moves ++ map (arc-row (place-names x) (move-names x)) x.arcs))
+rows x = plant_row x.kind ∷ (map place_row x.places ++ (map move_row x.moves ++ map (arc_row (place_names x) (move_names x)) x.arcs))
 
 -- ---- which values are right
 -- the tokens are at most the limit, which is 1 to 999
 abbrev pub Filled : Place → Type 0
-Filled p = (p.tokens ≤ p.limit) × (1 ≤ p.limit) × (p.limit < 10 ^ count-digits)
+Filled p = (p.tokens ≤ p.limit) × (1 ≤ p.limit) × (p.limit < 10 ^ count_digits)
 
 -- an arc between a place and a move that there are, of 0 to 9, not both 0
 abbrev pub Joins : ℕ → ℕ → Arc → Type 0
-Joins places moves a = (a.place < places) × (a.move < moves) × (a.take < 10 ^ arc-digits) × (a.give < 10 ^ arc-digits) × (1 ≤ a.take + a.give)
+Joins places moves a = (a.place < places) × (a.move < moves) × (a.take < 10 ^ arc_digits) × (a.give < 10 ^ arc_digits) × (1 ≤ a.take + a.give)
 
 abbrev pub SamePair : Arc → Arc → Type 0
 SamePair a b = (a.place ≡ b.place) × (a.move ≡ b.move)
 
 pub record Right (x : NetText) : Type 0 where
-  pub few-places : length x.places ≤ most-places
-  pub few-moves : length x.moves ≤ most-moves
+  pub few_places : length x.places ≤ most_places
+  pub few_moves : length x.moves ≤ most_moves
   pub named : AllByRecursion IsName (names x)
   pub different : AllDifferent (names x)
   pub filled : AllByRecursion Filled x.places

@@ -3,18 +3,18 @@
 --   amount q         what the part adds to its place's weight: its number, 1 if none, with its sign
 --   weight qs p      the weight of the place p by the parts qs
 --   ProperSum ns qs  at least one part; each has a place of ns and a number 1 to 99 or none; no weight ever leaves -99 to 99
---   sum-written      the bytes of a sum
+--   sum_written      the bytes of a sum
 --   Piece            what stands between two signs, with the sign before it (at the start: a minus or nothing)
 --   digits, body, title, left    of a piece: the digits at its start; what follows them and a star; the name there, up to 12 letters and
 --                    digits; what is left after it
---   read-sum         the sum of a field that starts at a byte, or the refusal and its byte
+--   read_sum         the sum of a field that starts at a byte, or the refusal and its byte
 use Rattle.std.specs.Prelude.{◌≡◌, ℕ, ◌+◌, ◌^◌, ◌<◌, ◌≤◌, min, Bool, true, false, cond, ◌&&◌, ◌||◌, ◌⊎◌, List, [], ◌∷◌, ◌++◌, map, length, take, drop, ℤ, pos, ◌+ℤ◌, neg_ℤ, Some, None, Ok, Err, decimal, Option, Result, ◌==◌, nat_le, slice_index, slice_index_or, unsigned_abs}
 use Rattle.std.specs.List.{prefix_len, AllByRecursion}
-use Rattle.model.specs.Sizes.{factor-digits, most-weight}
+use Rattle.model.specs.Sizes.{factor_digits, most_weight}
 use Rattle.model.specs.declared.refusal.Refusal.{Refusal}
 use Rattle.model.specs.declared.refusal.Refusal.TheVariants.{NameUnknown, Sum}
-use Rattle.formats.specs.Words.{none, Letter, IsName, Numeral, Known, is-letter, is_digit, is-numeral, is_known, value, index_of, AllDifferent}
-use Rattle.formats.specs.Texts.{Check, check, first-failed, Clause, clause, Breaks}
+use Rattle.formats.specs.Words.{none, Letter, IsName, Numeral, Known, is_letter, is_digit, is_numeral, is_known, value, index_of, AllDifferent}
+use Rattle.formats.specs.Texts.{Check, check, first_failed, Clause, clause, Breaks}
 
 pub record Part : Type 0 where
   pub minus : Bool
@@ -25,12 +25,12 @@ abbrev pub times : Option ℕ → ℕ
 times None = 1
 times (Some n) = n
 
-abbrev pub with-sign : Bool → ℕ → ℤ
-with-sign true n = neg_ℤ (pos n)
-with-sign false n = pos n
+abbrev pub with_sign : Bool → ℕ → ℤ
+with_sign true n = neg_ℤ (pos n)
+with_sign false n = pos n
 
 abbrev pub amount : Part → ℤ
-amount q = with-sign q.minus (times q.number)
+amount q = with_sign q.minus (times q.number)
 
 abbrev pub weight : List Part → ℕ → ℤ
 weight [] p = pos 0
@@ -39,12 +39,12 @@ weight (q ∷ qs) p = cond (q.place == p) (amount q) (pos 0) +ℤ weight qs p
 -- ---- which sums are proper
 abbrev pub NumberFits : Option ℕ → Type 0
 NumberFits None = Unit {0}
-NumberFits (Some n) = (1 ≤ n) × (n < 10 ^ factor-digits)
+NumberFits (Some n) = (1 ≤ n) × (n < 10 ^ factor_digits)
 
 -- the parts qs after the parts before them
 abbrev pub Running : List (List ℕ) → List Part → List Part → Type 0
 Running ns done [] = Unit {0}
-Running ns done (q ∷ qs) = (q.place < length ns) × NumberFits q.number × (unsigned_abs (weight done q.place +ℤ amount q) ≤ most-weight) × Running ns (done ++ (q ∷ [])) qs
+Running ns done (q ∷ qs) = (q.place < length ns) × NumberFits q.number × (unsigned_abs (weight done q.place +ℤ amount q) ≤ most_weight) × Running ns (done ++ (q ∷ [])) qs
 
 abbrev pub ProperSum : List (List ℕ) → List Part → Type 0
 ProperSum ns qs = (1 ≤ length qs) × Running ns [] qs
@@ -62,13 +62,13 @@ abbrev pub lead : Bool → List ℕ
 lead true = 45 ∷ []
 lead false = []
 
-abbrev pub more-written : List (List ℕ) → List Part → List ℕ
-more-written ns [] = []
-more-written ns (q ∷ qs) = sign_of q.minus ∷ (part_bytes q.number (slice_index_or ns q.place []) ++ more-written ns qs)
+abbrev pub more_written : List (List ℕ) → List Part → List ℕ
+more_written ns [] = []
+more_written ns (q ∷ qs) = sign_of q.minus ∷ (part_bytes q.number (slice_index_or ns q.place []) ++ more_written ns qs)
 
-abbrev pub sum-written : List (List ℕ) → List Part → List ℕ
-sum-written ns [] = []
-sum-written ns (q ∷ qs) = lead q.minus ++ (part_bytes q.number (slice_index_or ns q.place []) ++ more-written ns qs)
+abbrev pub sum_written : List (List ℕ) → List Part → List ℕ
+sum_written ns [] = []
+sum_written ns (q ∷ qs) = lead q.minus ++ (part_bytes q.number (slice_index_or ns q.place []) ++ more_written ns qs)
 
 -- ---- pieces
 pub record Piece : Type 0 where
@@ -78,8 +78,8 @@ pub record Piece : Type 0 where
 abbrev pub piece : Bool → List ℕ → Piece
 piece m b = record { minus = m; bytes = b }
 
-abbrev pub is-sign : ℕ → Bool
-is-sign b = b == 43 || b == 45
+abbrev pub is_sign : ℕ → Bool
+is_sign b = b == 43 || b == 45
 
 -- the byte goes in front of the first piece
 abbrev pub put : ℕ → List Piece → List Piece
@@ -88,16 +88,16 @@ put b (p ∷ ps) = piece p.minus (b ∷ p.bytes) ∷ ps
 
 abbrev pub pieces : Bool → List ℕ → List Piece
 pieces m [] = piece m [] ∷ []
-pieces m (b ∷ bs) = cond (is-sign b) (piece m [] ∷ pieces (b == 45) bs) (put b (pieces m bs))
+pieces m (b ∷ bs) = cond (is_sign b) (piece m [] ∷ pieces (b == 45) bs) (put b (pieces m bs))
 
 -- the pieces of a field, and how many bytes stand before the first
 abbrev pub terms : List ℕ → List Piece
 terms [] = pieces false []
 terms (b ∷ bs) = cond (b == 45) (pieces true bs) (pieces false (b ∷ bs))
 
-abbrev pub lead-length : List ℕ → ℕ
-lead-length [] = 0
-lead-length (b ∷ bs) = cond (b == 45) 1 0
+abbrev pub lead_length : List ℕ → ℕ
+lead_length [] = 0
+lead_length (b ∷ bs) = cond (b == 45) 1 0
 
 -- ---- a piece
 abbrev pub digits : List ℕ → List ℕ
@@ -110,14 +110,14 @@ abbrev pub body : List ℕ → List ℕ
 body p = drop (body_at p) p
 
 abbrev pub title : List ℕ → List ℕ
-title p = take (min 12 (prefix_len (λ c. is-letter c || is_digit c) (body p))) (body p)
+title p = take (min 12 (prefix_len (λ c. is_letter c || is_digit c) (body p))) (body p)
 
 abbrev pub left : List ℕ → List ℕ
 left p = drop (length (title p)) (body p)
 
-abbrev pub begins-name : List ℕ → Bool
-begins-name [] = false
-begins-name (b ∷ bs) = is-letter b
+abbrev pub begins_name : List ℕ → Bool
+begins_name [] = false
+begins_name (b ∷ bs) = is_letter b
 
 abbrev pub BeginsName : List ℕ → Type 0
 BeginsName [] = ⊥
@@ -127,23 +127,23 @@ BeginsName (b ∷ bs) = Letter b
 abbrev pub part_of : List (List ℕ) → Bool → List ℕ → Part
 part_of ns m p = record { minus = m; number = cond (none (digits p)) None (Some (value (digits p))); place = index_of ns (title p) }
 
-abbrev pub piece-checks : List (List ℕ) → ℕ → List Part → Bool → List ℕ → List Check
-piece-checks ns at done m p =
-    check (none (digits p) || (is-numeral factor-digits (digits p) && nat_le 1 (value (digits p)))) Sum at
+abbrev pub piece_checks : List (List ℕ) → ℕ → List Part → Bool → List ℕ → List Check
+piece_checks ns at done m p =
+    check (none (digits p) || (is_numeral factor_digits (digits p) && nat_le 1 (value (digits p)))) Sum at
     ∷ check (none (digits p) || slice_index p (length (digits p)) == 42) Sum (at + length (digits p))
-    ∷ check (begins-name (body p)) Sum (at + body_at p)
+    ∷ check (begins_name (body p)) Sum (at + body_at p)
     ∷ check (is_known ns (title p)) NameUnknown (at + body_at p)
-    ∷ check (nat_le (unsigned_abs (weight done (index_of ns (title p)) +ℤ amount (part_of ns m p))) most-weight) Sum (at + body_at p)
+    ∷ check (nat_le (unsigned_abs (weight done (index_of ns (title p)) +ℤ amount (part_of ns m p))) most_weight) Sum (at + body_at p)
     ∷ check (none (left p)) Sum (at + body_at p + length (title p))
     ∷ []
 
-abbrev pub piece-clauses : List (List ℕ) → ℕ → List Part → Bool → List ℕ → List Clause
-piece-clauses ns at done m p =
-    clause ((digits p ≡ []) ⊎ (Numeral factor-digits (digits p) × (1 ≤ value (digits p)))) Sum at
+abbrev pub piece_clauses : List (List ℕ) → ℕ → List Part → Bool → List ℕ → List Clause
+piece_clauses ns at done m p =
+    clause ((digits p ≡ []) ⊎ (Numeral factor_digits (digits p) × (1 ≤ value (digits p)))) Sum at
     ∷ clause ((digits p ≡ []) ⊎ (slice_index p (length (digits p)) ≡ 42)) Sum (at + length (digits p))
     ∷ clause (BeginsName (body p)) Sum (at + body_at p)
     ∷ clause (Known ns (title p)) NameUnknown (at + body_at p)
-    ∷ clause (unsigned_abs (weight done (index_of ns (title p)) +ℤ amount (part_of ns m p)) ≤ most-weight) Sum (at + body_at p)
+    ∷ clause (unsigned_abs (weight done (index_of ns (title p)) +ℤ amount (part_of ns m p)) ≤ most_weight) Sum (at + body_at p)
     ∷ clause (left p ≡ []) Sum (at + body_at p + length (title p))
     ∷ []
 
@@ -151,35 +151,35 @@ piece-clauses ns at done m p =
 abbrev pub sum_of : List (List ℕ) → List Piece → List Part
 sum_of ns ps = map (λ (p : Piece). part_of ns p.minus p.bytes) ps
 
-abbrev pub sum-checks : List (List ℕ) → ℕ → List Part → List Piece → List Check
-sum-checks ns at done [] = []
-sum-checks ns at done (p ∷ ps) =
-    piece-checks ns at done p.minus p.bytes ++ sum-checks ns (at + length p.bytes + 1) (done ++ (part_of ns p.minus p.bytes ∷ [])) ps
+abbrev pub sum_checks : List (List ℕ) → ℕ → List Part → List Piece → List Check
+sum_checks ns at done [] = []
+sum_checks ns at done (p ∷ ps) =
+    piece_checks ns at done p.minus p.bytes ++ sum_checks ns (at + length p.bytes + 1) (done ++ (part_of ns p.minus p.bytes ∷ [])) ps
 
-abbrev pub sum-clauses : List (List ℕ) → ℕ → List Part → List Piece → List Clause
-sum-clauses ns at done [] = []
-sum-clauses ns at done (p ∷ ps) =
-    piece-clauses ns at done p.minus p.bytes ++ sum-clauses ns (at + length p.bytes + 1) (done ++ (part_of ns p.minus p.bytes ∷ [])) ps
+abbrev pub sum_clauses : List (List ℕ) → ℕ → List Part → List Piece → List Clause
+sum_clauses ns at done [] = []
+sum_clauses ns at done (p ∷ ps) =
+    piece_clauses ns at done p.minus p.bytes ++ sum_clauses ns (at + length p.bytes + 1) (done ++ (part_of ns p.minus p.bytes ∷ [])) ps
 
-abbrev pub unless-sum : Option Check → List Part → Result (List Part) Check
-unless-sum None qs = Ok qs
-unless-sum (Some c) qs = Err c
+abbrev pub unless_sum : Option Check → List Part → Result (List Part) Check
+unless_sum None qs = Ok qs
+unless_sum (Some c) qs = Err c
 
 -- the sum in the field f that starts at the byte `at`
-unfoldable pub read-sum : List (List ℕ) → ℕ → List ℕ → Result (List Part) Check
-read-sum ns at f = unless-sum (first-failed (sum-checks ns (at + lead-length f) [] (terms f))) (sum_of ns (terms f))
+unfoldable pub read_sum : List (List ℕ) → ℕ → List ℕ → Result (List Part) Check
+read_sum ns at f = unless_sum (first_failed (sum_checks ns (at + lead_length f) [] (terms f))) (sum_of ns (terms f))
 
 -- ---- the laws, over names that are names and all differ
 -- a field is read as the sum qs just where qs is proper and the field is written so
 abbrev pub SumExact : Type 0
 SumExact = (ns : List (List ℕ)) (at : ℕ) (f : List ℕ) (qs : List Part) → AllByRecursion IsName ns → AllDifferent ns
-    → (read-sum ns at f ≡ Ok qs → ProperSum ns qs × (f ≡ sum-written ns qs)) × (ProperSum ns qs → f ≡ sum-written ns qs → read-sum ns at f ≡ Ok qs)
+    → (read_sum ns at f ≡ Ok qs → ProperSum ns qs × (f ≡ sum_written ns qs)) × (ProperSum ns qs → f ≡ sum_written ns qs → read_sum ns at f ≡ Ok qs)
 
 -- a field is refused just where a clause is broken, and all before it are kept
 abbrev pub SumRefusals : Type 0
 SumRefusals = (ns : List (List ℕ)) (at : ℕ) (f : List ℕ) (c : Refusal) (i : ℕ)
-    → (((d : Check) × (read-sum ns at f ≡ Err d) × (d.refusal ≡ c) × (d.byte ≡ i)) → Breaks (sum-clauses ns (at + lead-length f) [] (terms f)) c i)
-    × (Breaks (sum-clauses ns (at + lead-length f) [] (terms f)) c i → (d : Check) × (read-sum ns at f ≡ Err d) × (d.refusal ≡ c) × (d.byte ≡ i))
+    → (((d : Check) × (read_sum ns at f ≡ Err d) × (d.refusal ≡ c) × (d.byte ≡ i)) → Breaks (sum_clauses ns (at + lead_length f) [] (terms f)) c i)
+    × (Breaks (sum_clauses ns (at + lead_length f) [] (terms f)) c i → (d : Check) × (read_sum ns at f ≡ Err d) × (d.refusal ≡ c) × (d.byte ≡ i))
 
 -- one more part adds its amount to its place and to no other
 abbrev pub WeightPush : Type 0
@@ -187,4 +187,4 @@ WeightPush = (qs : List Part) (q : Part) (p : ℕ) → weight (qs ++ (q ∷ []))
 
 -- a proper sum weighs each place with -99 to 99, and nothing else
 abbrev pub WeightsIn : Type 0
-WeightsIn = (ns : List (List ℕ)) (qs : List Part) → ProperSum ns qs → (p : ℕ) → (unsigned_abs (weight qs p) ≤ most-weight) × (length ns ≤ p → weight qs p ≡ pos 0)
+WeightsIn = (ns : List (List ℕ)) (qs : List Part) → ProperSum ns qs → (p : ℕ) → (unsigned_abs (weight qs p) ≤ most_weight) × (length ns ≤ p → weight qs p ≡ pos 0)

@@ -7,7 +7,7 @@
 --                    where the line starts; the value after a line that passes; the test at the end
 --   Meaning          what those tests are for: the clauses of a line, the rows (lines as lists of fields) that are written for a value,
 --                    which values are right as far as they go, and which are whole
---   read-text        the checks of all the bytes, then line by line, then the end
+--   read_text        the checks of all the bytes, then line by line, then the end
 --   written          the bytes that are written for a value: its rows, fields parted by a tab, each line ended by a newline
 --   Refused bs f     bs is refused as f says: the first thing that is wrong with it, in the order of checks
 use Rattle.std.specs.Prelude.{◌≡◌, ℕ, ◌+◌, ◌<◌, ◌≤◌, Bool, cond, ◌&&◌, ◌⊎◌, List, [], ◌∷◌, ◌++◌, map, length, Some, None, Ok, Err, Option, Result, ◌==◌, ◌≢◌, nat_le, nat_lt}
@@ -16,7 +16,7 @@ use Rattle.model.specs.Sizes.{most_bytes}
 use Rattle.model.specs.declared.refusal.Refusal.{Refusal}
 use Rattle.model.specs.declared.refusal.Refusal.TheVariants.{Form, Byte, NotOfKind}
 use Rattle.formats.specs.declared.fault.TextFault.{TextFault}
-use Rattle.formats.specs.Words.{Allowed, is-allowed, joined, unlines, fields, lines, last}
+use Rattle.formats.specs.Words.{Allowed, is_allowed, joined, unlines, fields, lines, last}
 
 abbrev pub fault : Refusal → ℕ → ℕ → TextFault
 fault r k i = record { refusal = r; line = k; byte = i }
@@ -30,9 +30,9 @@ pub record Check : Type 0 where
 abbrev pub check : Bool → Refusal → ℕ → Check
 check t r i = record { passes = t; refusal = r; byte = i }
 
-abbrev pub first-failed : List Check → Option Check
-first-failed [] = None
-first-failed (c ∷ cs) = cond c.passes (first-failed cs) (Some c)
+abbrev pub first_failed : List Check → Option Check
+first_failed [] = None
+first_failed (c ∷ cs) = cond c.passes (first_failed cs) (Some c)
 
 -- ---- clauses in order
 pub record Clause : Type 1 where
@@ -67,25 +67,25 @@ unless None k r = r
 unless (Some c) k r = Err (fault c.refusal k c.byte)
 
 -- the value so far, the line's number (from 1), the byte where it starts, the lines to come
-abbrev pub read-lines : {X : Type 0} → Reader X → Option X → ℕ → ℕ → List (List ℕ) → Result X TextFault
-read-lines R s k at [] = ended R s at
-read-lines R s k at (l ∷ ls) =
-    unless (first-failed (R.checks s at (fields l))) k (read-lines R (Some (R.after s (fields l))) (k + 1) (at + length l + 1) ls)
+abbrev pub read_lines : {X : Type 0} → Reader X → Option X → ℕ → ℕ → List (List ℕ) → Result X TextFault
+read_lines R s k at [] = ended R s at
+read_lines R s k at (l ∷ ls) =
+    unless (first_failed (R.checks s at (fields l))) k (read_lines R (Some (R.after s (fields l))) (k + 1) (at + length l + 1) ls)
 
-abbrev pub is-text : List ℕ → Bool
-is-text bs = nat_lt 0 (length bs) && (nat_le (length bs) most_bytes && last bs == 10)
+abbrev pub is_text : List ℕ → Bool
+is_text bs = nat_lt 0 (length bs) && (nat_le (length bs) most_bytes && last bs == 10)
 
 -- the first byte that is not allowed, on line k from byte i on
-abbrev pub bad-byte : ℕ → ℕ → List ℕ → Option TextFault
-bad-byte k i [] = None
-bad-byte k i (b ∷ bs) = cond (is-allowed b) (bad-byte (cond (b == 10) (k + 1) k) (i + 1) bs) (Some (fault Byte k i))
+abbrev pub bad_byte : ℕ → ℕ → List ℕ → Option TextFault
+bad_byte k i [] = None
+bad_byte k i (b ∷ bs) = cond (is_allowed b) (bad_byte (cond (b == 10) (k + 1) k) (i + 1) bs) (Some (fault Byte k i))
 
-abbrev pub unless-byte : {X : Type 0} → Option TextFault → Result X TextFault → Result X TextFault
-unless-byte None r = r
-unless-byte (Some f) r = Err f
+abbrev pub unless_byte : {X : Type 0} → Option TextFault → Result X TextFault → Result X TextFault
+unless_byte None r = r
+unless_byte (Some f) r = Err f
 
-unfoldable pub read-text : {X : Type 0} → Reader X → List ℕ → Result X TextFault
-read-text R bs = cond (is-text bs) (unless-byte (bad-byte 1 0 bs) (read-lines R None 1 0 (lines bs))) (Err (fault Form 0 0))
+unfoldable pub read_text : {X : Type 0} → Reader X → List ℕ → Result X TextFault
+read_text R bs = cond (is_text bs) (unless_byte (bad_byte 1 0 bs) (read_lines R None 1 0 (lines bs))) (Err (fault Form 0 0))
 
 -- ---- meaning
 pub record Meaning (X : Type 0) : Type 1 where
@@ -106,9 +106,9 @@ abbrev pub so_far : {X : Type 0} → Meaning X → Option X → List ℕ
 so_far M None = []
 so_far M (Some x) = written M x
 
-abbrev pub lines-so-far : {X : Type 0} → Meaning X → Option X → ℕ
-lines-so-far M None = 0
-lines-so-far M (Some x) = length (M.rows x)
+abbrev pub lines_so_far : {X : Type 0} → Meaning X → Option X → ℕ
+lines_so_far M None = 0
+lines_so_far M (Some x) = length (M.rows x)
 
 abbrev pub RightSoFar : {X : Type 0} → Meaning X → Option X → Type 0
 RightSoFar M None = Unit {0}
@@ -130,7 +130,7 @@ pub data Refused {X : Type 0} (M : Meaning X) (bs : List ℕ) (f : TextFault) : 
   -- 12 to 17 and 19: all lines before it are those of a value s that is right so far, and this line breaks a clause
   no_line : IsText bs → AllByRecursion Allowed bs → (s : Option X) (l rest : List ℕ) → RightSoFar M s → bs ≡ so_far M s ++ (l ++ (10 ∷ rest)) → AllByRecursion (λ b. b ≢ 10) l
       → (c : Refusal) (i : ℕ) → Breaks (M.clauses s (length (so_far M s)) (fields l)) c i
-      → f ≡ fault c (lines-so-far M s + 1) i → Refused M bs f
+      → f ≡ fault c (lines_so_far M s + 1) i → Refused M bs f
   -- 18: the whole is the text of x, which is right so far, and x is not complete
   no_end : IsText bs → AllByRecursion Allowed bs → (x : X) → M.Right x → bs ≡ written M x → (M.Complete x → ⊥)
       → f ≡ fault NotOfKind 0 (length bs) → Refused M bs f
@@ -138,11 +138,11 @@ pub data Refused {X : Type 0} (M : Meaning X) (bs : List ℕ) (f : TextFault) : 
 -- ---- the laws
 -- a text is read as x just where x is proper and the text is written so
 abbrev pub Exact : {X : Type 0} → Reader X → Meaning X → Type 0
-Exact {X} R M = (bs : List ℕ) (x : X) → (read-text R bs ≡ Ok x → Proper M x × (bs ≡ written M x)) × (Proper M x → bs ≡ written M x → read-text R bs ≡ Ok x)
+Exact {X} R M = (bs : List ℕ) (x : X) → (read_text R bs ≡ Ok x → Proper M x × (bs ≡ written M x)) × (Proper M x → bs ≡ written M x → read_text R bs ≡ Ok x)
 
 -- a text is refused with f just where it is to be refused so
 abbrev pub Refusals : {X : Type 0} → Reader X → Meaning X → Type 0
-Refusals R M = (bs : List ℕ) (f : TextFault) → (read-text R bs ≡ Err f → Refused M bs f) × (Refused M bs f → read-text R bs ≡ Err f)
+Refusals R M = (bs : List ℕ) (f : TextFault) → (read_text R bs ≡ Err f → Refused M bs f) × (Refused M bs f → read_text R bs ≡ Err f)
 
 -- each text is the text of one proper value, or has one refusal, and never both
 abbrev pub EachText : {X : Type 0} → Meaning X → Type 0

@@ -14,7 +14,7 @@
 use Rattle.std.specs.Prelude.{◌≡◌, ℕ, suc, ◌+◌, ◌-◌, ◌*◌, ◌^◌, ◌<◌, ◌≤◌, Bool, true, false, cond, not, ◌&&◌, ◌||◌, ◌⊎◌, List, [], ◌∷◌, ◌++◌, length, decimal, ◌==◌, nat_le, nat_lt, slice_index, slice_index_or}
 use Rattle.std.specs.List.{AllByRecursion}
 use Rattle.std.specs.Str.{all_ascii_digits, bytes_eq}
-use Rattle.model.specs.Sizes.{name-tail}
+use Rattle.model.specs.Sizes.{name_tail}
 
 -- ---- what is meant
 abbrev pub From : ℕ → ℕ → ℕ → Type 0
@@ -35,7 +35,7 @@ Allowed b = (b ≡ 9) ⊎ ((b ≡ 10) ⊎ Shown b)
 
 abbrev pub IsName : List ℕ → Type 0
 IsName [] = ⊥
-IsName (b ∷ bs) = Letter b × AllByRecursion (λ c. Letter c ⊎ Digit c) bs × (length bs ≤ name-tail)
+IsName (b ∷ bs) = Letter b × AllByRecursion (λ c. Letter c ⊎ Digit c) bs × (length bs ≤ name_tail)
 
 abbrev pub Numeral : ℕ → List ℕ → Type 0
 Numeral d f = (v : ℕ) × (v < 10 ^ d) × (f ≡ decimal v)
@@ -70,18 +70,18 @@ unlines [] = []
 unlines (l ∷ ls) = l ++ (10 ∷ unlines ls)
 
 -- ---- how it is read
-abbrev pub is-letter : ℕ → Bool
-is-letter b = (nat_le 65 b && nat_le b 90) || (nat_le 97 b && nat_le b 122)
+abbrev pub is_letter : ℕ → Bool
+is_letter b = (nat_le 65 b && nat_le b 90) || (nat_le 97 b && nat_le b 122)
 
 abbrev pub is_digit : ℕ → Bool
 is_digit b = nat_le 48 b && nat_le b 57
 
-abbrev pub is-allowed : ℕ → Bool
-is-allowed b = b == 9 || (b == 10 || (nat_le 33 b && nat_le b 126))
+abbrev pub is_allowed : ℕ → Bool
+is_allowed b = b == 9 || (b == 10 || (nat_le 33 b && nat_le b 126))
 
 -- a byte other than b
-abbrev pub is-not : ℕ → ℕ → Bool
-is-not b c = not (c == b)
+abbrev pub is_not : ℕ → ℕ → Bool
+is_not b c = not (c == b)
 
 abbrev pub all : {A : Type 0} → (A → Bool) → List A → Bool
 all t [] = true
@@ -93,7 +93,7 @@ none (x ∷ xs) = false
 
 abbrev pub is_name : List ℕ → Bool
 is_name [] = false
-is_name (b ∷ bs) = is-letter b && (all (λ c. is-letter c || is_digit c) bs && nat_le (length bs) name-tail)
+is_name (b ∷ bs) = is_letter b && (all (λ c. is_letter c || is_digit c) bs && nat_le (length bs) name_tail)
 
 abbrev pub value_after : ℕ → List ℕ → ℕ
 value_after n [] = n
@@ -102,8 +102,8 @@ value_after n (c ∷ cs) = value_after (n * 10 + (c - 48)) cs
 abbrev pub value : List ℕ → ℕ
 value f = value_after 0 f
 
-abbrev pub is-numeral : ℕ → List ℕ → Bool
-is-numeral d f = all_ascii_digits f && (nat_lt 0 (length f) && (nat_le (length f) d && (not (slice_index f 0 == 48) || length f == 1)))
+abbrev pub is_numeral : ℕ → List ℕ → Bool
+is_numeral d f = all_ascii_digits f && (nat_lt 0 (length f) && (nat_le (length f) d && (not (slice_index f 0 == 48) || length f == 1)))
 
 -- the byte goes in front of the first piece
 abbrev pub onto : ℕ → List (List ℕ) → List (List ℕ)
@@ -130,8 +130,8 @@ abbrev pub index_of : List (List ℕ) → List ℕ → ℕ
 index_of [] n = 0
 index_of (m ∷ ms) n = cond (bytes_eq m n) 0 (suc (index_of ms n))
 
-abbrev pub is-new : List (List ℕ) → List ℕ → Bool
-is-new ns n = all (λ m. not (bytes_eq m n)) ns
+abbrev pub is_new : List (List ℕ) → List ℕ → Bool
+is_new ns n = all (λ m. not (bytes_eq m n)) ns
 
 abbrev pub is_known : List (List ℕ) → List ℕ → Bool
 is_known ns n = nat_lt (index_of ns n) (length ns)

@@ -4,31 +4,31 @@ use Rattle.std.proofs.Common.{sym, ◌∙◌, ap, subst, inl, inr, ⊎_elim, ari
 use Rattle.std.proofs.lemmas.List.{get_or_past, get_or-replicate, get_or-set_same, get_or-set_other, length-replicate}
 use Rattle.std.proofs.lemmas.Bool.{cases_eq, cases_lt, cond-true, cond-false, cond_both, eq-eqb, ne_eqb}
 use Rattle.model.specs.Layer as model
-use Rattle.model.specs.Layer.{blank, row-with, change-row}
+use Rattle.model.specs.Layer.{blank, row_with, change_row}
 use Rattle.model.specs.Rule.{positive, negative}
-use Rattle.model.specs.Sizes.{control-limit, most-control-arc}
-use Rattle.model.proofs.Setting.{positive-le, negative-le}
+use Rattle.model.specs.Sizes.{control_limit, most_control_arc}
+use Rattle.model.proofs.Setting.{positive_le, negative_le}
 use Rattle.layers.specs.declared.row.Row.{Row}
-use Rattle.layers.specs.Rows.{row_of, nothing, rows_of, only, rule-row}
+use Rattle.layers.specs.Rows.{row_of, nothing, rows_of, only, rule_row}
 
 pub record Kept (x : model.Row) : Type 0 where
   pub one_way : (t : ℕ) → 0 < x.take t → x.give t ≡ 0
-  pub low : x.free ≤ control-limit
-  pub small-takes : (t : ℕ) → x.take t ≤ most-control-arc
-  pub small-gives : (t : ℕ) → x.give t ≤ most-control-arc
+  pub low : x.free ≤ control_limit
+  pub small_takes : (t : ℕ) → x.take t ≤ most_control_arc
+  pub small_gives : (t : ℕ) → x.give t ≤ most_control_arc
 
-pub kept-blank : Kept blank
-kept-blank = record { one_way = λ t l. refl; low = omega arith; small-takes = λ t. omega arith; small-gives = λ t. omega arith }
+pub kept_blank : Kept blank
+kept_blank = record { one_way = λ t l. refl; low = omega arith; small_takes = λ t. omega arith; small_gives = λ t. omega arith }
 
-pub kept_free : (x : model.Row) (free : ℕ) → free ≤ control-limit → Kept x → Kept (row-with x free)
-kept_free x free l k = record { one_way = k.one_way; low = l; small-takes = k.small-takes; small-gives = k.small-gives }
+pub kept_free : (x : model.Row) (free : ℕ) → free ≤ control_limit → Kept x → Kept (row_with x free)
+kept_free x free l k = record { one_way = k.one_way; low = l; small_takes = k.small_takes; small_gives = k.small_gives }
 
-pub kept_rule : (raises : ℕ → ℤ) (free : ℕ) → free ≤ control-limit → ((t : ℕ) → unsigned_abs (raises t) ≤ most-control-arc) → Kept (rule-row raises free)
+pub kept_rule : (raises : ℕ → ℤ) (free : ℕ) → free ≤ control_limit → ((t : ℕ) → unsigned_abs (raises t) ≤ most_control_arc) → Kept (rule_row raises free)
 kept_rule raises free l small = record {
   one_way = λ t. never_both (raises t);
   low = l;
-  small-takes = λ t. omega (arith, positive-le (raises t), small t);
-  small-gives = λ t. omega (arith, negative-le (raises t), small t);
+  small_takes = λ t. omega (arith, positive_le (raises t), small t);
+  small_gives = λ t. omega (arith, negative_le (raises t), small t);
 }
   where
     never_both : (z : ℤ) → 0 < positive z → negative z ≡ 0
@@ -36,8 +36,8 @@ kept_rule raises free l small = record {
     never_both (negsuc n) h = absurd (omega arith)
 
 -- ---- one row of a table
-pub rows-set : (rows : List Row) (r : ℕ) (x : Row) → r < length rows → rows_of (slice_set rows r x) ≡ change-row (rows_of rows) r (row_of x)
-rows-set rows r x l = λ j i. at i j
+pub rows_set : (rows : List Row) (r : ℕ) (x : Row) → r < length rows → rows_of (slice_set rows r x) ≡ change_row (rows_of rows) r (row_of x)
+rows_set rows r x l = λ j i. at i j
   where
     at : (i : ℕ) → rows_of (slice_set rows r x) i ≡ cond (i == r) (row_of x) (rows_of rows i)
     at i = go (cases_eq i r)
@@ -46,18 +46,18 @@ rows-set rows r x l = λ j i. at i j
         go (inl e) = ap (rows_of (slice_set rows r x)) e ∙ ap row_of (get_or-set_same rows r x nothing l) ∙ sym (cond-true (i == r) (row_of x) (rows_of rows i) (eq-eqb i r e))
         go (inr ne) = ap row_of (get_or-set_other rows r i x nothing ne) ∙ sym (cond-false (i == r) (row_of x) (rows_of rows i) (ne_eqb i r ne))
 
-pub rows-past : (rows : List Row) (r : ℕ) → length rows ≤ r → rows_of rows r ≡ blank
-rows-past rows r l = ap row_of (get_or_past rows r nothing l)
+pub rows_past : (rows : List Row) (r : ℕ) → length rows ≤ r → rows_of rows r ≡ blank
+rows_past rows r l = ap row_of (get_or_past rows r nothing l)
 
-pub kept-change : (rows : ℕ → model.Row) (r : ℕ) (new : model.Row) → ((i : ℕ) → Kept (rows i)) → Kept new → (i : ℕ) → Kept (change-row rows r new i)
-kept-change rows r new all here i = cond_both (i == r) new (rows i) Kept (λ e. here) (λ e. all i)
+pub kept_change : (rows : ℕ → model.Row) (r : ℕ) (new : model.Row) → ((i : ℕ) → Kept (rows i)) → Kept new → (i : ℕ) → Kept (change_row rows r new i)
+kept_change rows r new all here i = cond_both (i == r) new (rows i) Kept (λ e. here) (λ e. all i)
 
 -- ---- the one row of a monitor
-pub only-first : (row : Row) (r : ℕ) → r < 1 → only row r ≡ row_of row
-only-first row r l = cond-true (r == 0) (row_of row) blank (eq-eqb r 0 (omega arith))
+pub only_first : (row : Row) (r : ℕ) → r < 1 → only row r ≡ row_of row
+only_first row r l = cond-true (r == 0) (row_of row) blank (eq-eqb r 0 (omega arith))
 
-pub only-change : (row new : Row) (r : ℕ) (x : model.Row) → r < 1 → row_of new ≡ x → only new ≡ change-row (only row) r x
-only-change row new r x l e = subst (λ (k : ℕ). only new ≡ change-row (only row) k x) (sym first) (λ j i. at (i == 0) i j)
+pub only_change : (row new : Row) (r : ℕ) (x : model.Row) → r < 1 → row_of new ≡ x → only new ≡ change_row (only row) r x
+only_change row new r x l e = subst (λ (k : ℕ). only new ≡ change_row (only row) k x) (sym first) (λ j i. at (i == 0) i j)
   where
     first : r ≡ 0
     first = omega arith
@@ -67,18 +67,18 @@ only-change row new r x l e = subst (λ (k : ℕ). only new ≡ change-row (only
     at false i = refl
 
 -- ---- new rows
-pub only-blank : (row : Row) → row_of row ≡ blank → only row ≡ (λ r. blank)
-only-blank row e = λ j r. at (r == 0) j
+pub only_blank : (row : Row) → row_of row ≡ blank → only row ≡ (λ r. blank)
+only_blank row e = λ j r. at (r == 0) j
   where
     at : (b : Bool) → cond b (row_of row) blank ≡ blank
     at true = e
     at false = refl
 
-pub rows-blank : (n : ℕ) (row : Row) → row_of row ≡ blank → rows_of (replicate n row) ≡ (λ r. blank)
-rows-blank n row e = λ j r. at r j
+pub rows_blank : (n : ℕ) (row : Row) → row_of row ≡ blank → rows_of (replicate n row) ≡ (λ r. blank)
+rows_blank n row e = λ j r. at r j
   where
     at : (r : ℕ) → rows_of (replicate n row) r ≡ blank
     at r = ⊎_elim
         (λ l. ap row_of (get_or-replicate n r row nothing l) ∙ e)
-        (λ l. rows-past (replicate n row) r (omega (arith, length-replicate n row)))
+        (λ l. rows_past (replicate n row) r (omega (arith, length-replicate n row)))
         (cases_lt r n)

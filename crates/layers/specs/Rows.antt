@@ -3,7 +3,7 @@
 --   nothing          what is read past the last row
 --   rows_of          the rows of a table of them
 --   only             one row, and none after it
---   rule-row         the row of a rule that each move raises by so much, with so many tokens
+--   rule_row         the row of a rule that each move raises by so much, with so many tokens
 use Rattle.std.specs.Prelude.{ℕ, true, false, cond, List, [], ℤ, ◌==◌, slice_index, slice_index_or}
 use Rattle.model.specs.Rule.{positive, negative}
 use Rattle.model.specs.Layer as model
@@ -21,5 +21,5 @@ rows_of rows r = row_of (slice_index_or rows r nothing)
 abbrev pub only : Row → ℕ → model.Row
 only row r = cond (r == 0) (row_of row) model.blank
 
-abbrev pub rule-row : (ℕ → ℤ) → ℕ → model.Row
-rule-row raises free = record { take = λ t. positive (raises t); give = λ t. negative (raises t); free = free; in_use = true }
+abbrev pub rule_row : (ℕ → ℤ) → ℕ → model.Row
+rule_row raises free = record { take = λ t. positive (raises t); give = λ t. negative (raises t); free = free; in_use = true }

@@ -1,8 +1,8 @@
 // A layer as a net.
 ghost use Rattle.std.specs.Prelude.{◌≡◌, ℕ};
-ghost use Rattle.model.specs.Layer.{layer-net, row_count};
-ghost use Rattle.model.proofs.LayerCalls.{layer-keeps};
-ghost use Rattle.layers.specs.Layered.{layer-layered};
+ghost use Rattle.model.specs.Layer.{layer_net, row_count};
+ghost use Rattle.model.proofs.LayerCalls.{layer_keeps};
+ghost use Rattle.layers.specs.Layered.{layer_layered};
 
 use crate::layer::Layer;
 use crate::rows::Rows;
@@ -12,13 +12,13 @@ use plant::plant::Plant;
 
 // The ground places and the moves are those below; the control places of the rows come after all places below.
 impl<P: Plant, R: Rows> Net for Layer<P, R> {
-    ghost net = { λ s. layer-net (row_count R.Rows.top) (P.Net.net s.below) (R.Rows.rows s.rows) };
+    ghost net = { λ s. layer_net (row_count R.Rows.top) (P.Net.net s.below) (R.Rows.rows s.rows) };
 
     ghost sound = { λ s.
-        layer-keeps (row_count R.Rows.top) (P.Net.net s.below) (R.Rows.rows s.rows) (P.Net.sound s.below)
+        layer_keeps (row_count R.Rows.top) (P.Net.net s.below) (R.Rows.rows s.rows) (P.Net.sound s.below)
         (λ r t l. (R.Rows.small_takes s.rows r t, R.Rows.small_gives s.rows r t)) };
 
-    ghost layered = { λ s p. layer-layered (row_count R.Rows.top) (P.Net.net s.below) (R.Rows.rows s.rows) (P.Net.sound s.below) (P.Net.layered s.below) p };
+    ghost layered = { λ s p. layer_layered (row_count R.Rows.top) (P.Net.net s.below) (R.Rows.rows s.rows) (P.Net.sound s.below) (P.Net.layered s.below) p };
 
     fn ground(&self) -> usize {
         self.below.ground()

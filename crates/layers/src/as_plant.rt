@@ -1,7 +1,7 @@
 // A layer as a plant: each call is refused as below if refused below, else by the layer's own rows.
 ghost use Rattle.std.specs.Prelude.{◌≡◌, ℕ};
-ghost use Rattle.layers.specs.Piles.{pile-of};
-ghost use Rattle.model.specs.Layer.{layer-free, row_count};
+ghost use Rattle.layers.specs.Piles.{pile_of};
+ghost use Rattle.model.specs.Layer.{layer_free, row_count};
 ghost use Rattle.std.proofs.Common.{rules};
 
 use crate::layer::Layer;
@@ -12,9 +12,9 @@ use plant::net::Net;
 use plant::plant::Plant;
 
 impl<P: Plant, R: Rows> Plant for Layer<P, R> {
-    ghost tokens = { λ s. layer-free (row_count R.Rows.top) (P.Net.net s.below) (P.Plant.tokens s.below) (R.Rows.rows s.rows) };
+    ghost tokens = { λ s. layer_free (row_count R.Rows.top) (P.Net.net s.below) (P.Plant.tokens s.below) (R.Rows.rows s.rows) };
 
-    ghost pile = { λ s. pile-of R.Rows.top P.Net.net P.Plant.tokens R.Rows.rows s };
+    ghost pile = { λ s. pile_of R.Rows.top P.Net.net P.Plant.tokens R.Rows.rows s };
 
     ghost stacked = { Prim.search rules };
 

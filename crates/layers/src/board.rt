@@ -1,9 +1,9 @@
 // The board: a layer of twelve rows.
 ghost use Rattle.std.specs.Prelude.{◌≡◌, ℕ, Ok, Err};
-ghost use Rattle.layers.specs.Piles.{board-pile, Fresh};
+ghost use Rattle.layers.specs.Piles.{board_pile, Fresh};
 ghost use Rattle.layers.specs.Setting.{SetTo};
-ghost use Rattle.model.specs.Layer.{board, board-answer};
-ghost use Rattle.rules.specs.Rules.{rule-of};
+ghost use Rattle.model.specs.Layer.{board, board_answer};
+ghost use Rattle.rules.specs.Rules.{rule_of};
 
 use crate::fault::fault;
 use crate::layer::Layer;
@@ -22,7 +22,7 @@ impl<P: Plant> Board<P> {
     // A board over the plant, with no rules yet.
     pub fn new(below: P) -> Self
         ensures below { result.below ≡ below }
-        ensures fresh { Fresh board (P.Net.net below) (P.Plant.tokens below) (board-pile P.Net.net P.Plant.tokens result) }
+        ensures fresh { Fresh board (P.Net.net below) (P.Plant.tokens below) (board_pile P.Net.net P.Plant.tokens result) }
     {
         Layer {
             below,
@@ -32,14 +32,14 @@ impl<P: Plant> Board<P> {
 
     // Whether the row `r` has a rule; a missing row has none.
     pub fn in_use(&self, r: usize) -> bool
-        ensures { result ≡ ((board-pile P.Net.net P.Plant.tokens self.now).rows r).in_use }
+        ensures { result ≡ ((board_pile P.Net.net P.Plant.tokens self.now).rows r).in_use }
     {
         self.rows.in_use(r)
     }
 
     // What `set` would answer now.
     pub fn may_set(&self, r: usize, typed: &TypedRule) -> Result<(), Fault>
-        ensures { result ≡ board-answer (board-pile P.Net.net P.Plant.tokens self.now) r (rule-of typed.now) }
+        ensures { result ≡ board_answer (board_pile P.Net.net P.Plant.tokens self.now) r (rule_of typed.now) }
     {
         if r >= BOARD_ROWS {
             return Err(fault(Refusal::NoRow));
@@ -50,10 +50,10 @@ impl<P: Plant> Board<P> {
 
     // Sets the row `r` to the rule, worked over the plant below, or answers why not; a refused rule changes nothing.
     pub fn set(&mut self, r: usize, typed: &TypedRule) -> Result<(), Fault>
-        ensures answer { result ≡ board-answer (board-pile P.Net.net P.Plant.tokens self.old) r (rule-of typed.now) }
+        ensures answer { result ≡ board_answer (board_pile P.Net.net P.Plant.tokens self.old) r (rule_of typed.now) }
         ensures below { self.new.below ≡ self.old.below }
         ensures refused { (f : Fault) → result ≡ Err f → self.new ≡ self.old }
-        ensures set { result ≡ Ok tt → SetTo (board-pile P.Net.net P.Plant.tokens self.old) (board-pile P.Net.net P.Plant.tokens self.new) r (rule-of typed.now) }
+        ensures set { result ≡ Ok tt → SetTo (board_pile P.Net.net P.Plant.tokens self.old) (board_pile P.Net.net P.Plant.tokens self.new) r (rule_of typed.now) }
     {
         if r >= BOARD_ROWS {
             return Err(fault(Refusal::NoRow));

@@ -1,8 +1,8 @@
 // A layer: rows put on a plant, and where their places are.
 ghost use Rattle.std.specs.Prelude.{◌≡◌, ℕ, ◌<◌, IfSome};
 ghost use Rattle.layers.specs.Layers.{own_row};
-ghost use Rattle.model.specs.Layer.{is-shut, next-layer, row_count, row-fault};
-ghost use Rattle.model.specs.Plant.{refuse-at};
+ghost use Rattle.model.specs.Layer.{is_shut, next_layer, row_count, row_fault};
+ghost use Rattle.model.specs.Plant.{refuse_at};
 
 use crate::rows::Rows;
 use model::fault::{Fault, Spot};
@@ -20,7 +20,7 @@ pub struct Layer<P, R> {
 impl<P: Plant, R: Rows> Layer<P, R> {
     // Whether there is no room for the rows: then the layer adds no place.
     pub(crate) fn is_shut(&self) -> bool
-        ensures { result ≡ is-shut (row_count R.Rows.top) (P.Net.net self.now.below) }
+        ensures { result ≡ is_shut (row_count R.Rows.top) (P.Net.net self.now.below) }
     {
         self.below.places() + self.rows.count() > MOST_ALL_PLACES
     }
@@ -38,7 +38,7 @@ impl<P: Plant, R: Rows> Layer<P, R> {
 
     // The number of this layer: one above the highest below.
     pub(crate) fn next_layer(&self) -> usize
-        ensures { result ≡ next-layer (P.Net.net self.now.below).places (P.Net.net self.now.below).layer }
+        ensures { result ≡ next_layer (P.Net.net self.now.below).places (P.Net.net self.now.below).layer }
     {
         let mut next: usize = 1;
         'places: for p in 0..self.below.places() {
@@ -55,7 +55,7 @@ impl<P: Plant, R: Rows> Layer<P, R> {
         found: Option<usize>,
     ) -> Result<(), Fault>
         requires { IfSome found (λ r. r < row_count R.Rows.top) }
-        ensures { result ≡ refuse-at (row-fault (P.Net.net self.now.below) refusal t) found }
+        ensures { result ≡ refuse_at (row_fault (P.Net.net self.now.below) refusal t) found }
     {
         match found {
             Some(r) => {

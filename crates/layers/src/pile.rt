@@ -1,10 +1,10 @@
 // The pile of a cell: a board over a fixed monitor over the plant.
 ghost use Rattle.std.specs.Prelude.{◌≡◌, ℕ, IfOk};
-ghost use Rattle.layers.specs.Piles.{new-pile, stack-pile};
+ghost use Rattle.layers.specs.Piles.{new_pile, stack_pile};
 ghost use Rattle.layers.specs.Setting.{plain};
 ghost use Rattle.layers.specs.Stacking.{Stacked};
-ghost use Rattle.model.specs.Layer.{monitor, monitor-answer};
-ghost use Rattle.rules.specs.Rules.{rule-of};
+ghost use Rattle.model.specs.Layer.{monitor, monitor_answer};
+ghost use Rattle.rules.specs.Rules.{rule_of};
 
 use crate::board::Board;
 use crate::monitor::Monitor;
@@ -14,9 +14,9 @@ use rules::typed::TypedRule;
 
 // A board without rules over a monitor with the fixed rule, or why the fixed rule cannot be set.
 pub fn build<P: Plant + Drop>(plant: P, fixed: &TypedRule) -> Result<Board<Monitor<P>>, Fault>
-    ensures answer { plain result ≡ monitor-answer (new-pile monitor (P.Net.net plant) (P.Plant.tokens plant)) (rule-of fixed.now) }
+    ensures answer { plain result ≡ monitor_answer (new_pile monitor (P.Net.net plant) (P.Plant.tokens plant)) (rule_of fixed.now) }
     ensures kept { IfOk result (λ b. b.below.below ≡ plant) }
-    ensures pile { IfOk result (λ b. Stacked (P.Net.net plant) (P.Plant.tokens plant) (rule-of fixed.now) (stack-pile P.Net.net P.Plant.tokens b)) }
+    ensures pile { IfOk result (λ b. Stacked (P.Net.net plant) (P.Plant.tokens plant) (rule_of fixed.now) (stack_pile P.Net.net P.Plant.tokens b)) }
 {
     let mut monitor = Monitor::new(plant);
     monitor.set(fixed)?;

@@ -1,8 +1,8 @@
 // A row of a layer, plain: what keeps it in order is with the rows that hold it.
 ghost use Rattle.std.specs.Prelude.{◌≡◌, ℕ, ◌<◌, pos, slice_index_or, slice_set};
-ghost use Rattle.layers.specs.Rows.{row_of, rule-row};
-ghost use Rattle.model.specs.Layer.{blank, row-with};
-ghost use Rattle.model.specs.Sizes.{most-moves};
+ghost use Rattle.layers.specs.Rows.{row_of, rule_row};
+ghost use Rattle.model.specs.Layer.{blank, row_with};
+ghost use Rattle.model.specs.Sizes.{most_moves};
 ghost use Rattle.model.specs.Rule.{positive, negative};
 
 use model::sizes::MOST_MOVES;
@@ -44,14 +44,14 @@ impl Row {
     }
 
     pub(crate) fn set_free(&mut self, free: u32)
-        ensures { row_of self.new ≡ row-with (row_of self.old) free }
+        ensures { row_of self.new ≡ row_with (row_of self.old) free }
     {
         self.free = free;
     }
 
     // The move `t` takes what it raises a rule by, or gives what it lowers the rule by.
     fn set_arc(&mut self, t: usize, raise: i32)
-        requires { t < most-moves }
+        requires { t < most_moves }
         ensures { self.new ≡ record { take = slice_set self.old.take t (positive raise); give = slice_set self.old.give t (negative raise); free = self.old.free; in_use = self.old.in_use } }
     {
         self.take[t] = raise.max(0) as u32;
@@ -60,7 +60,7 @@ impl Row {
 
     // Makes this the row of a rule, by what each move raises it, with so many tokens.
     pub(crate) fn set_rule(&mut self, raises: &[i32; MOST_MOVES], free: u32)
-        ensures { row_of self.new ≡ rule-row (λ t. slice_index_or raises.now t (pos 0)) free }
+        ensures { row_of self.new ≡ rule_row (λ t. slice_index_or raises.now t (pos 0)) free }
     {
         'moves: for t in 0..MOST_MOVES {
             self.set_arc(t, raises[t]);

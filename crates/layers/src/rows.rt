@@ -1,9 +1,9 @@
 // The rows of a layer, behind one trait, so that what a layer does is written once.
 ghost use Rattle.std.specs.Prelude.{◌≡◌, ℕ, ◌+◌, ◌-◌, ◌<◌, ◌≤◌, pos, nat_lt, slice_index_or, unsigned_abs};
-ghost use Rattle.layers.specs.Rows.{rule-row};
-ghost use Rattle.model.specs.Layer.{Row as RowValue, Top, row_count, blank, row-with, change-row};
+ghost use Rattle.layers.specs.Rows.{rule_row};
+ghost use Rattle.model.specs.Layer.{Row as RowValue, Top, row_count, blank, row_with, change_row};
 ghost use Rattle.model.specs.Plant.{lowest};
-ghost use Rattle.model.specs.Sizes.{board-rows, control-limit, most-control-arc};
+ghost use Rattle.model.specs.Sizes.{board_rows, control_limit, most_control_arc};
 
 use model::sizes::{CONTROL_LIMIT, MOST_MOVES};
 
@@ -37,15 +37,15 @@ pub trait Rows {
     // The row `r` has so many tokens; no other row changes.
     fn set_free(&mut self, r: usize, free: u32)
         requires row { r < row_count top }
-        requires room { free ≤ control-limit }
-        ensures { rows self.new ≡ change-row (rows self.old) r (row-with (rows self.old r) free) };
+        requires room { free ≤ control_limit }
+        ensures { rows self.new ≡ change_row (rows self.old) r (row_with (rows self.old r) free) };
 
     // The row `r` is that of a rule, by what each move raises it, with so many tokens; no other row changes.
     fn set_rule(&mut self, r: usize, raises: &[i32; MOST_MOVES], free: u32)
         requires row { r < row_count top }
-        requires room { free ≤ control-limit }
-        requires small { (t : ℕ) → unsigned_abs (slice_index_or raises.now t (pos 0)) ≤ most-control-arc }
-        ensures { rows self.new ≡ change-row (rows self.old) r (rule-row (λ t. slice_index_or raises.now t (pos 0)) free) };
+        requires room { free ≤ control_limit }
+        requires small { (t : ℕ) → unsigned_abs (slice_index_or raises.now t (pos 0)) ≤ most_control_arc }
+        ensures { rows self.new ≡ change_row (rows self.old) r (rule_row (λ t. slice_index_or raises.now t (pos 0)) free) };
 
     // The lowest row that has fewer tokens than the move `t` takes there.
     fn short(&self, t: usize) -> Option<usize>
@@ -61,7 +61,7 @@ pub trait Rows {
 
     // The lowest row that would go over its limit by what the move `t` gives there.
     fn over_by_give(&self, t: usize) -> Option<usize>
-        ensures { result ≡ lowest (λ r. nat_lt control-limit ((rows self.now r).free + (rows self.now r).give t)) 0 (row_count top) }
+        ensures { result ≡ lowest (λ r. nat_lt control_limit ((rows self.now r).free + (rows self.now r).give t)) 0 (row_count top) }
     {
         'rows: for r in 0..self.count() {
             if CONTROL_LIMIT - self.free(r) < self.give(r, t) {
@@ -73,7 +73,7 @@ pub trait Rows {
 
     // The lowest row that would go over its limit by what the move `t` takes there.
     fn over_by_take(&self, t: usize) -> Option<usize>
-        ensures { result ≡ lowest (λ r. nat_lt control-limit ((rows self.now r).free + (rows self.now r).take t)) 0 (row_count top) }
+        ensures { result ≡ lowest (λ r. nat_lt control_limit ((rows self.now r).free + (rows self.now r).take t)) 0 (row_count top) }
     {
         'rows: for r in 0..self.count() {
             if CONTROL_LIMIT - self.free(r) < self.take(r, t) {
@@ -86,7 +86,7 @@ pub trait Rows {
     // Takes from each row what the move `t` takes there.
     fn begin(&mut self, t: usize)
         requires { (r : ℕ) → r < row_count top → (rows self.old r).take t ≤ (rows self.old r).free }
-        ensures { rows self.new ≡ (λ r. row-with (rows self.old r) ((rows self.old r).free - (rows self.old r).take t)) }
+        ensures { rows self.new ≡ (λ r. row_with (rows self.old r) ((rows self.old r).free - (rows self.old r).take t)) }
     {
         'rows: for r in 0..self.count() {
             let left = self.free(r) - self.take(r, t);
@@ -96,8 +96,8 @@ pub trait Rows {
 
     // Gives to each row what the move `t` gives there.
     fn finish(&mut self, t: usize)
-        requires { (r : ℕ) → r < row_count top → (rows self.old r).free + (rows self.old r).give t ≤ control-limit }
-        ensures { rows self.new ≡ (λ r. row-with (rows self.old r) ((rows self.old r).free + (rows self.old r).give t)) }
+        requires { (r : ℕ) → r < row_count top → (rows self.old r).free + (rows self.old r).give t ≤ control_limit }
+        ensures { rows self.new ≡ (λ r. row_with (rows self.old r) ((rows self.old r).free + (rows self.old r).give t)) }
     {
         'rows: for r in 0..self.count() {
             let more = self.free(r) + self.give(r, t);
@@ -107,8 +107,8 @@ pub trait Rows {
 
     // Gives back to each row what the move `t` takes there.
     fn back(&mut self, t: usize)
-        requires { (r : ℕ) → r < row_count top → (rows self.old r).free + (rows self.old r).take t ≤ control-limit }
-        ensures { rows self.new ≡ (λ r. row-with (rows self.old r) ((rows self.old r).free + (rows self.old r).take t)) }
+        requires { (r : ℕ) → r < row_count top → (rows self.old r).free + (rows self.old r).take t ≤ control_limit }
+        ensures { rows self.new ≡ (λ r. row_with (rows self.old r) ((rows self.old r).free + (rows self.old r).take t)) }
     {
         'rows: for r in 0..self.count() {
             let more = self.free(r) + self.take(r, t);
@@ -118,15 +118,15 @@ pub trait Rows {
 
     ghost some: { 1 ≤ row_count top };
 
-    ghost few: { row_count top ≤ board-rows };
+    ghost few: { row_count top ≤ board_rows };
 
     ghost missing: { (s : Self) (r : ℕ) → row_count top ≤ r → rows s r ≡ blank };
 
     ghost one_way: { (s : Self) (r t : ℕ) → 0 < (rows s r).take t → (rows s r).give t ≡ 0 };
 
-    ghost low: { (s : Self) (r : ℕ) → (rows s r).free ≤ control-limit };
+    ghost low: { (s : Self) (r : ℕ) → (rows s r).free ≤ control_limit };
 
-    ghost small_takes: { (s : Self) (r t : ℕ) → (rows s r).take t ≤ most-control-arc };
+    ghost small_takes: { (s : Self) (r t : ℕ) → (rows s r).take t ≤ most_control_arc };
 
-    ghost small_gives: { (s : Self) (r t : ℕ) → (rows s r).give t ≤ most-control-arc };
+    ghost small_gives: { (s : Self) (r t : ℕ) → (rows s r).give t ≤ most_control_arc };
 }

@@ -1,11 +1,11 @@
 // Setting a row of a layer to a rule.
 ghost use Rattle.std.specs.Prelude.{◌≡◌, ℕ, ◌<◌, ◌≤◌, pos, Ok, Err, slice_index_or, unsigned_abs};
-ghost use Rattle.layers.specs.Piles.{pile-of};
+ghost use Rattle.layers.specs.Piles.{pile_of};
 ghost use Rattle.layers.specs.Setting.{Checks, SetTo};
-ghost use Rattle.model.specs.Layer.{row_count, top-answer};
-ghost use Rattle.model.specs.Rule.{raise as raise-of};
-ghost use Rattle.model.specs.Sizes.{most-control-arc};
-ghost use Rattle.rules.specs.Rules.{rule-of, worked-of, answer-of};
+ghost use Rattle.model.specs.Layer.{row_count, top_answer};
+ghost use Rattle.model.specs.Rule.{raise as raise_of};
+ghost use Rattle.model.specs.Sizes.{most_control_arc};
+ghost use Rattle.rules.specs.Rules.{rule_of, worked_of, answer_of};
 
 use crate::fault::fault;
 use crate::layer::Layer;
@@ -21,8 +21,8 @@ use rules::worked::WorkedRule;
 
 // By how much each move raises the rule.
 fn raises<N: Net>(rule: &WorkedRule, net: &N) -> [i32; MOST_MOVES]
-    ensures value { (t : ℕ) → slice_index_or result t (pos 0) ≡ raise-of (N.Net.net net.now) (worked-of rule.now).weight t }
-    ensures small { (t : ℕ) → unsigned_abs (slice_index_or result t (pos 0)) ≤ most-control-arc }
+    ensures value { (t : ℕ) → slice_index_or result t (pos 0) ≡ raise_of (N.Net.net net.now) (worked_of rule.now).weight t }
+    ensures small { (t : ℕ) → unsigned_abs (slice_index_or result t (pos 0)) ≤ most_control_arc }
 {
     let mut raises = [0; MOST_MOVES];
     'moves: for t in 0..MOST_MOVES {
@@ -34,7 +34,7 @@ fn raises<N: Net>(rule: &WorkedRule, net: &N) -> [i32; MOST_MOVES]
 impl<P: Plant, R: Rows> Layer<P, R> {
     // The rule that the row `r` would be set to, or why it would not: nothing is changed.
     pub(crate) fn check_rule(&self, r: usize, typed: &TypedRule) -> Result<WorkedRule, Fault>
-        ensures { Checks (pile-of R.Rows.top P.Net.net P.Plant.tokens R.Rows.rows self.now) r (rule-of typed.now) (answer-of result) }
+        ensures { Checks (pile_of R.Rows.top P.Net.net P.Plant.tokens R.Rows.rows self.now) r (rule_of typed.now) (answer_of result) }
     {
         if self.is_shut() {
             return Err(fault(Refusal::Shut));
@@ -52,10 +52,10 @@ impl<P: Plant, R: Rows> Layer<P, R> {
     // Sets the row `r` to the rule, or answers why not.
     pub(crate) fn set_row(&mut self, r: usize, typed: &TypedRule) -> Result<(), Fault>
         requires { r < row_count R.Rows.top }
-        ensures answer { result ≡ top-answer (pile-of R.Rows.top P.Net.net P.Plant.tokens R.Rows.rows self.old) r (rule-of typed.now) }
+        ensures answer { result ≡ top_answer (pile_of R.Rows.top P.Net.net P.Plant.tokens R.Rows.rows self.old) r (rule_of typed.now) }
         ensures below { self.new.below ≡ self.old.below }
         ensures refused { (f : Fault) → result ≡ Err f → self.new ≡ self.old }
-        ensures set { result ≡ Ok tt → SetTo (pile-of R.Rows.top P.Net.net P.Plant.tokens R.Rows.rows self.old) (pile-of R.Rows.top P.Net.net P.Plant.tokens R.Rows.rows self.new) r (rule-of typed.now) }
+        ensures set { result ≡ Ok tt → SetTo (pile_of R.Rows.top P.Net.net P.Plant.tokens R.Rows.rows self.old) (pile_of R.Rows.top P.Net.net P.Plant.tokens R.Rows.rows self.new) r (rule_of typed.now) }
     {
         let rule = self.check_rule(r, typed)?;
         let raises = raises(&rule, &self.below);

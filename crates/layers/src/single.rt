@@ -2,7 +2,7 @@
 ghost use Rattle.std.specs.Prelude.{◌≡◌, ℕ, ◌<◌, ◌≤◌};
 ghost use Rattle.layers.specs.Rows.{row_of, only};
 ghost use Rattle.model.specs.Layer.{monitor, blank};
-ghost use Rattle.model.specs.Sizes.{control-limit, most-control-arc};
+ghost use Rattle.model.specs.Sizes.{control_limit, most_control_arc};
 ghost use Rattle.std.proofs.Common.{rules};
 
 use crate::row::Row;
@@ -13,9 +13,9 @@ use model::sizes::MOST_MOVES;
 pub struct Single {
     pub(crate) row: Row,
     ghost one_way: { (t : ℕ) → 0 < (row_of row).take t → (row_of row).give t ≡ 0 },
-    ghost low: { (row_of row).free ≤ control-limit },
-    ghost small_takes: { (t : ℕ) → (row_of row).take t ≤ most-control-arc },
-    ghost small_gives: { (t : ℕ) → (row_of row).give t ≤ most-control-arc },
+    ghost low: { (row_of row).free ≤ control_limit },
+    ghost small_takes: { (t : ℕ) → (row_of row).take t ≤ most_control_arc },
+    ghost small_gives: { (t : ℕ) → (row_of row).give t ≤ most_control_arc },
 }
 
 impl Single {

@@ -2,9 +2,9 @@
 ghost use Rattle.std.specs.Prelude.{◌≡◌, ℕ, ◌<◌, ◌≤◌, length};
 ghost use Rattle.layers.specs.Rows.{rows_of};
 ghost use Rattle.model.specs.Layer.{board, blank};
-ghost use Rattle.model.specs.Sizes.{board-rows, control-limit, most-control-arc};
+ghost use Rattle.model.specs.Sizes.{board_rows, control_limit, most_control_arc};
 ghost use Rattle.std.proofs.Common.{arith, rules};
-ghost use Rattle.layers.specs.Kept.{rows-past};
+ghost use Rattle.layers.specs.Kept.{rows_past};
 
 use crate::row::Row;
 use crate::rows::Rows;
@@ -13,11 +13,11 @@ use model::sizes::{BOARD_ROWS, MOST_MOVES};
 #[derive(Drop)]
 pub struct Table {
     pub(crate) rows: [Row; BOARD_ROWS],
-    ghost all: { length rows ≡ board-rows },
+    ghost all: { length rows ≡ board_rows },
     ghost one_way: { (r t : ℕ) → 0 < (rows_of rows r).take t → (rows_of rows r).give t ≡ 0 },
-    ghost low: { (r : ℕ) → (rows_of rows r).free ≤ control-limit },
-    ghost small_takes: { (r t : ℕ) → (rows_of rows r).take t ≤ most-control-arc },
-    ghost small_gives: { (r t : ℕ) → (rows_of rows r).give t ≤ most-control-arc },
+    ghost low: { (r : ℕ) → (rows_of rows r).free ≤ control_limit },
+    ghost small_takes: { (r t : ℕ) → (rows_of rows r).take t ≤ most_control_arc },
+    ghost small_gives: { (r t : ℕ) → (rows_of rows r).give t ≤ most_control_arc },
 }
 
 impl Table {
@@ -40,7 +40,7 @@ impl Rows for Table {
 
     ghost few = { Prim.search rules };
 
-    ghost missing = { λ s r l. rows-past s.rows r (omega (arith, s.all)) };
+    ghost missing = { λ s r l. rows_past s.rows r (omega (arith, s.all)) };
 
     ghost one_way = { Prim.search rules };
 

@@ -2,40 +2,40 @@
 use Rattle.std.proofs.Common.{◌≡◌, ℕ, ◌+◌, ◌*◌, ◌<◌, ◌≤◌, max, ap, sym, refl, ◌∙◌, inl, inr, arith, slice_index, slice_set, replicate, length, List, cond, ◌==◌, ◌-◌, zero, suc, subst, le_trans, mul-le-mul}
 use Rattle.std.proofs.lemmas.Bool.{cases_lt, cases_eq, cond-true, cond-false, eq-eqb, ne_eqb}
 use Rattle.std.proofs.lemmas.List.{get_or_past, get_or-replicate, length-replicate, get_or-set_same, get_or-set_other}
-use Rattle.model.specs.Sizes.{most-control-arc, most-open, control-limit}
+use Rattle.model.specs.Sizes.{most_control_arc, most_open, control_limit}
 use Rattle.model.specs.Net.{Net, Ranges, sum}
-use Rattle.model.specs.Ledger.{open-count, reserved, plus_one, minus_one}
+use Rattle.model.specs.Ledger.{open_count, reserved, plus_one, minus_one}
 use Rattle.ledger.specs.declared.grants.Grants.{Grants}
 use Rattle.ledger.specs.Grants.{opened, Tallied}
-use Rattle.model.proofs.Sums.{sum_below, le-sum, sum-zero, sum-none}
-use Rattle.model.proofs.Moving.{sum-plus, sum-minus, count-plus, count-minus}
+use Rattle.model.proofs.Sums.{sum_below, le_sum, sum_zero, sum_none}
+use Rattle.model.proofs.Moving.{sum_plus, sum_minus, count_plus, count_minus}
 
 -- the most that one grant may bring to a place
-pub brought-small : (n : Net) → Ranges n → (p t : ℕ) → max (n.take p t) (n.give p t) ≤ most-control-arc
-brought-small n r p t = elim (cases_lt p n.ground-places) [
-  | inl l ↦ omega (arith, (r.ground-arcs p t l).0, (r.ground-arcs p t l).1)
-  | inr l ↦ omega (arith, (r.control-arcs p t l).0, (r.control-arcs p t l).1)
+pub brought_small : (n : Net) → Ranges n → (p t : ℕ) → max (n.take p t) (n.give p t) ≤ most_control_arc
+brought_small n r p t = elim (cases_lt p n.ground_places) [
+  | inl l ↦ omega (arith, (r.ground_arcs p t l).0, (r.ground_arcs p t l).1)
+  | inr l ↦ omega (arith, (r.control_arcs p t l).0, (r.control_arcs p t l).1)
 ]
 
-pub reserved-small : (n : Net) (g : ℕ → ℕ) (p : ℕ) → Ranges n → open-count n g ≤ most-open → reserved n g p ≤ most-open * most-control-arc
-reserved-small n g p r few =
-    let a = sum_below n.moves most-control-arc g (λ u. max (n.take p u) (n.give p u)) (λ u l. brought-small n r p u) in
+pub reserved_small : (n : Net) (g : ℕ → ℕ) (p : ℕ) → Ranges n → open_count n g ≤ most_open → reserved n g p ≤ most_open * most_control_arc
+reserved_small n g p r few =
+    let a = sum_below n.moves most_control_arc g (λ u. max (n.take p u) (n.give p u)) (λ u l. brought_small n r p u) in
     omega (arith, a)
 
 module _ (n : Net) (g : ℕ → ℕ) (t : ℕ) (there : t < n.moves) where
-  pub reserved-plus : (p : ℕ) → reserved n (plus_one g t) p ≡ reserved n g p + max (n.take p t) (n.give p t)
-  reserved-plus p = sum-plus n.moves t g (λ u. max (n.take p u) (n.give p u)) there
+  pub reserved_plus : (p : ℕ) → reserved n (plus_one g t) p ≡ reserved n g p + max (n.take p t) (n.give p t)
+  reserved_plus p = sum_plus n.moves t g (λ u. max (n.take p u) (n.give p u)) there
 
-  pub reserved-minus : (p : ℕ) → 0 < g t → reserved n g p ≡ reserved n (minus_one g t) p + max (n.take p t) (n.give p t)
-  reserved-minus p o = sum-minus n.moves t g (λ u. max (n.take p u) (n.give p u)) there o
+  pub reserved_minus : (p : ℕ) → 0 < g t → reserved n g p ≡ reserved n (minus_one g t) p + max (n.take p t) (n.give p t)
+  reserved_minus p o = sum_minus n.moves t g (λ u. max (n.take p u) (n.give p u)) there o
 
 -- ---- tables of counts
 pub zeros : (n i : ℕ) → slice_index (replicate n 0) i ≡ 0
 zeros n i = elim (cases_lt i n) [ inl l ↦ get_or-replicate n i 0 0 l | inr l ↦ get_or_past (replicate n 0) i 0 (let e : length (replicate {A = ℕ} n 0) ≡ n = length-replicate {A = ℕ} n 0 in omega arith) ]
 
 -- one count of the table changed
-set-count : (xs : List ℕ) (t v : ℕ) → t < length xs → opened (slice_set xs t v) ≡ (λ u. cond (u == t) v (opened xs u))
-set-count xs t v l = λ j u. at u j
+set_count : (xs : List ℕ) (t v : ℕ) → t < length xs → opened (slice_set xs t v) ≡ (λ u. cond (u == t) v (opened xs u))
+set_count xs t v l = λ j u. at u j
   where
     at : (u : ℕ) → opened (slice_set xs t v) u ≡ cond (u == t) v (opened xs u)
     at u = elim (cases_eq u t) [
@@ -44,8 +44,8 @@ set-count xs t v l = λ j u. at u j
     ]
 
 -- the count at t is changed as the model changes it
-at-that : (f : ℕ → ℕ) (change : ℕ → ℕ) (t : ℕ) → ◌≡◌ {A = ℕ → ℕ} (λ u. cond (u == t) (change (f t)) (f u)) (λ u. cond (u == t) (change (f u)) (f u))
-at-that f change t = λ j u. at u j
+at_that : (f : ℕ → ℕ) (change : ℕ → ℕ) (t : ℕ) → ◌≡◌ {A = ℕ → ℕ} (λ u. cond (u == t) (change (f t)) (f u)) (λ u. cond (u == t) (change (f u)) (f u))
+at_that f change t = λ j u. at u j
   where
     at : (u : ℕ) → cond (u == t) (change (f t)) (f u) ≡ cond (u == t) (change (f u)) (f u)
     at u = elim (cases_eq u t) [
@@ -53,70 +53,70 @@ at-that f change t = λ j u. at u j
       | inr ne ↦ cond-false (u == t) (change (f t)) (f u) (ne_eqb u t ne) ∙ sym (cond-false (u == t) (change (f u)) (f u) (ne_eqb u t ne))
     ]
 
-pub count-raised : (xs : List ℕ) (t : ℕ) → t < length xs → opened (slice_set xs t (slice_index xs t + 1)) ≡ plus_one (opened xs) t
-count-raised xs t l = set-count xs t (slice_index xs t + 1) l ∙ at-that (opened xs) (λ v. v + 1) t
+pub count_raised : (xs : List ℕ) (t : ℕ) → t < length xs → opened (slice_set xs t (slice_index xs t + 1)) ≡ plus_one (opened xs) t
+count_raised xs t l = set_count xs t (slice_index xs t + 1) l ∙ at_that (opened xs) (λ v. v + 1) t
 
-pub count-lowered : (xs : List ℕ) (t : ℕ) → t < length xs → opened (slice_set xs t (slice_index xs t - 1)) ≡ minus_one (opened xs) t
-count-lowered xs t l = set-count xs t (slice_index xs t - 1) l ∙ at-that (opened xs) (λ v. v - 1) t
+pub count_lowered : (xs : List ℕ) (t : ℕ) → t < length xs → opened (slice_set xs t (slice_index xs t - 1)) ≡ minus_one (opened xs) t
+count_lowered xs t l = set_count xs t (slice_index xs t - 1) l ∙ at_that (opened xs) (λ v. v - 1) t
 
 -- ---- the tally with one grant more, and with one fewer
 module _ (n : Net) (old new : Grants) (t : ℕ) (there : t < n.moves) (tallied : Tallied n old) where
-  pub tally-more : old.total < most-open → opened new.counts ≡ plus_one (opened old.counts) t → new.total ≡ old.total + 1
+  pub tally_more : old.total < most_open → opened new.counts ≡ plus_one (opened old.counts) t → new.total ≡ old.total + 1
       → ((p : ℕ) → p < n.places → slice_index new.reserved p ≡ slice_index old.reserved p + max (n.take p t) (n.give p t)) → Tallied n new
-  tally-more room counts total raised = record {
-    total-is = total ∙ ap (λ x. x + 1) tallied.total-is ∙ sym (count-plus n.moves t (opened old.counts) there) ∙ ap (open-count n) (sym counts);
+  tally_more room counts total raised = record {
+    total_is = total ∙ ap (λ x. x + 1) tallied.total_is ∙ sym (count_plus n.moves t (opened old.counts) there) ∙ ap (open_count n) (sym counts);
     few = omega arith;
-    reserved-is = λ p l. raised p l ∙ ap (λ x. x + max (n.take p t) (n.give p t)) (tallied.reserved-is p l) ∙ sym (reserved-plus n (opened old.counts) t there p) ∙ ap (λ g. reserved n g p) (sym counts);
+    reserved_is = λ p l. raised p l ∙ ap (λ x. x + max (n.take p t) (n.give p t)) (tallied.reserved_is p l) ∙ sym (reserved_plus n (opened old.counts) t there p) ∙ ap (λ g. reserved n g p) (sym counts);
   }
 
-  pub tally-fewer : 0 < opened old.counts t → opened new.counts ≡ minus_one (opened old.counts) t → new.total ≡ old.total - 1
+  pub tally_fewer : 0 < opened old.counts t → opened new.counts ≡ minus_one (opened old.counts) t → new.total ≡ old.total - 1
       → ((p : ℕ) → p < n.places → slice_index new.reserved p ≡ slice_index old.reserved p - max (n.take p t) (n.give p t)) → Tallied n new
-  tally-fewer some counts total lowered =
-      let m : open-count n (opened old.counts) ≡ open-count n (minus_one (opened old.counts) t) + 1 = count-minus n.moves t (opened old.counts) there some in
+  tally_fewer some counts total lowered =
+      let m : open_count n (opened old.counts) ≡ open_count n (minus_one (opened old.counts) t) + 1 = count_minus n.moves t (opened old.counts) there some in
       record {
-        total-is = (omega (arith, m, tallied.total-is)) ∙ ap (open-count n) (sym counts);
+        total_is = (omega (arith, m, tallied.total_is)) ∙ ap (open_count n) (sym counts);
         few = omega (arith, tallied.few);
-        reserved-is = λ p l. lowered p l ∙ down (slice_index old.reserved p) (reserved n (opened old.counts) p) (reserved n (minus_one (opened old.counts) t) p) (max (n.take p t) (n.give p t)) (tallied.reserved-is p l) (reserved-minus n (opened old.counts) t there p some) ∙ ap (λ g. reserved n g p) (sym counts);
+        reserved_is = λ p l. lowered p l ∙ down (slice_index old.reserved p) (reserved n (opened old.counts) p) (reserved n (minus_one (opened old.counts) t) p) (max (n.take p t) (n.give p t)) (tallied.reserved_is p l) (reserved_minus n (opened old.counts) t there p some) ∙ ap (λ g. reserved n g p) (sym counts);
       }
     where
       down : (x a b m : ℕ) → x ≡ a → a ≡ b + m → x - m ≡ b
       down x a b m e h = omega arith
 
 -- what one open grant may bring to a place is in the sum kept for it
-pub brought-held : (n : Net) (g : ℕ → ℕ) (t p : ℕ) → t < n.moves → 0 < g t → max (n.take p t) (n.give p t) ≤ reserved n g p
-brought-held n g t p there some = omega (arith, reserved-minus n g t there p some)
+pub brought_held : (n : Net) (g : ℕ → ℕ) (t p : ℕ) → t < n.moves → 0 < g t → max (n.take p t) (n.give p t) ≤ reserved n g p
+brought_held n g t p there some = omega (arith, reserved_minus n g t there p some)
 
-pub tallied-none : (n : Net) (g : Grants) → opened g.counts ≡ (λ t. 0) → g.total ≡ 0 → ((p : ℕ) → slice_index g.reserved p ≡ 0) → Tallied n g
-tallied-none n g none total nothing = record {
-  total-is = total ∙ sym (ap (open-count n) none ∙ sum-zero n.moves);
+pub tallied_none : (n : Net) (g : Grants) → opened g.counts ≡ (λ t. 0) → g.total ≡ 0 → ((p : ℕ) → slice_index g.reserved p ≡ 0) → Tallied n g
+tallied_none n g none total nothing = record {
+  total_is = total ∙ sym (ap (open_count n) none ∙ sum_zero n.moves);
   few = omega arith;
-  reserved-is = λ p l. nothing p ∙ sym (ap (λ (f : ℕ → ℕ). reserved n f p) none ∙ sum-none n.moves (λ t. 0) (λ u. max (n.take p u) (n.give p u)) (λ i k. refl));
+  reserved_is = λ p l. nothing p ∙ sym (ap (λ (f : ℕ → ℕ). reserved n f p) none ∙ sum_none n.moves (λ t. 0) (λ u. max (n.take p u) (n.give p u)) (λ i k. refl));
 }
 
 -- ---- markings
-sum-part : (k m : ℕ) (f : ℕ → ℕ) → k ≤ m → sum k f ≤ sum m f
-sum-part k zero f l = let e : k ≡ 0 = omega arith in subst (λ j. sum j f ≤ sum 0 f) (sym e) (omega arith)
-sum-part k (suc m) f l = elim (cases_lt k (suc m)) [
-  | inl h ↦ omega (arith, sum-part k m f (omega arith))
+sum_part : (k m : ℕ) (f : ℕ → ℕ) → k ≤ m → sum k f ≤ sum m f
+sum_part k zero f l = let e : k ≡ 0 = omega arith in subst (λ j. sum j f ≤ sum 0 f) (sym e) (omega arith)
+sum_part k (suc m) f l = elim (cases_lt k (suc m)) [
+  | inl h ↦ omega (arith, sum_part k m f (omega arith))
   | inr h ↦ let e : k ≡ suc m = omega arith in subst (λ j. sum j f ≤ sum (suc m) f) (sym e) (omega arith)
 ]
 
-take-small : (n : Net) → Ranges n → (p t : ℕ) → n.take p t ≤ most-control-arc
-take-small n r p t = elim (cases_lt p n.ground-places) [ inl l ↦ omega (arith, (r.ground-arcs p t l).0) | inr l ↦ omega (arith, (r.control-arcs p t l).0) ]
+take_small : (n : Net) → Ranges n → (p t : ℕ) → n.take p t ≤ most_control_arc
+take_small n r p t = elim (cases_lt p n.ground_places) [ inl l ↦ omega (arith, (r.ground_arcs p t l).0) | inr l ↦ omega (arith, (r.control_arcs p t l).0) ]
 
-limit-small : (n : Net) → Ranges n → (p : ℕ) → n.limit p ≤ control-limit
-limit-small n r p = elim (cases_lt p n.ground-places) [
-  | inl l ↦ omega (arith, (r.ground-limit p l).1)
-  | inr l ↦ elim (cases_lt p n.places) [ inl k ↦ omega (arith, r.control-limited p l k) | inr k ↦ omega (arith, (r.no_place p 0 k).2) ]
+limit_small : (n : Net) → Ranges n → (p : ℕ) → n.limit p ≤ control_limit
+limit_small n r p = elim (cases_lt p n.ground_places) [
+  | inl l ↦ omega (arith, (r.ground_limit p l).1)
+  | inr l ↦ elim (cases_lt p n.places) [ inl k ↦ omega (arith, r.control_limited p l k) | inr k ↦ omega (arith, (r.no_place p 0 k).2) ]
 ]
 
 -- what has been added up after the move t still fits
-module _ (n : Net) (r : Ranges n) (g : ℕ → ℕ) (few : open-count n g ≤ most-open) (p t : ℕ) (there : t < n.moves) where
-  pub one-taken : g t * n.take p t ≤ most-open * most-control-arc
-  one-taken = mul-le-mul (le_trans (le-sum n.moves g t there) few) (take-small n r p t)
+module _ (n : Net) (r : Ranges n) (g : ℕ → ℕ) (few : open_count n g ≤ most_open) (p t : ℕ) (there : t < n.moves) where
+  pub one_taken : g t * n.take p t ≤ most_open * most_control_arc
+  one_taken = mul-le-mul (le_trans (le_sum n.moves g t there) few) (take_small n r p t)
 
-  pub taken-so-far : (free : ℕ) → free ≤ n.limit p → free + sum t (λ u. g u * n.take p u) + g t * n.take p t ≤ control-limit + most-open * most-control-arc
-  taken-so-far free l =
-      let all = sum_below n.moves most-control-arc g (λ u. n.take p u) (λ u h. take-small n r p u) in
-      let part : sum (suc t) (λ u. g u * n.take p u) ≤ sum n.moves (λ u. g u * n.take p u) = sum-part (suc t) n.moves (λ u. g u * n.take p u) (omega arith) in
-      omega (arith, all, part, limit-small n r p)
+  pub taken_so_far : (free : ℕ) → free ≤ n.limit p → free + sum t (λ u. g u * n.take p u) + g t * n.take p t ≤ control_limit + most_open * most_control_arc
+  taken_so_far free l =
+      let all = sum_below n.moves most_control_arc g (λ u. n.take p u) (λ u h. take_small n r p u) in
+      let part : sum (suc t) (λ u. g u * n.take p u) ≤ sum n.moves (λ u. g u * n.take p u) = sum_part (suc t) n.moves (λ u. g u * n.take p u) (omega arith) in
+      omega (arith, all, part, limit_small n r p)

@@ -3,15 +3,15 @@
 --   Tallied      the counts and sums belong together over the net: how many grants are open in all, and what they may yet bring to
 --                each place
 use Rattle.std.specs.Prelude.{◌≡◌, ℕ, ◌<◌, ◌≤◌, List, slice_index}
-use Rattle.model.specs.Sizes.{most-open}
+use Rattle.model.specs.Sizes.{most_open}
 use Rattle.model.specs.Net.{Net}
-use Rattle.model.specs.Ledger.{open-count, reserved}
+use Rattle.model.specs.Ledger.{open_count, reserved}
 use Rattle.ledger.specs.declared.grants.Grants.{Grants}
 
 abbrev pub opened : List ℕ → ℕ → ℕ
 opened counts t = slice_index counts t
 
 pub record Tallied (n : Net) (g : Grants) : Type 0 where
-  pub total-is : g.total ≡ open-count n (opened g.counts)
-  pub few : g.total ≤ most-open
-  pub reserved-is : (p : ℕ) → p < n.places → slice_index g.reserved p ≡ reserved n (opened g.counts) p
+  pub total_is : g.total ≡ open_count n (opened g.counts)
+  pub few : g.total ≤ most_open
+  pub reserved_is : (p : ℕ) → p < n.places → slice_index g.reserved p ≡ reserved n (opened g.counts) p

@@ -1,10 +1,10 @@
 // The setter's call, where a board is the top layer: a rule is admitted to one of its rows.
 ghost use Rattle.std.specs.Prelude.{◌≡◌, ℕ, ◌==◌};
 ghost use Rattle.model.specs.declared.refusal.Refusal.TheVariants.{GrantsOpen};
-ghost use Rattle.model.specs.Plant.{setting-fault, refuse-unless};
+ghost use Rattle.model.specs.Plant.{setting_fault, refuse_unless};
 ghost use Rattle.model.specs.Ledger.{admit, answer, next};
-ghost use Rattle.rules.specs.Rules.{rule-of};
-ghost use Rattle.ledger.specs.Ledgers.{ledger-of};
+ghost use Rattle.rules.specs.Rules.{rule_of};
+ghost use Rattle.ledger.specs.Ledgers.{ledger_of};
 
 use crate::ledger::Ledger;
 use layers::board::Board;
@@ -16,7 +16,7 @@ use rules::typed::TypedRule;
 impl<P: Plant> Ledger<Board<P>> {
     // Refused while any grant is open.
     fn check_none_open(&self) -> Result<(), Fault>
-        ensures { result ≡ refuse-unless (self.now.grants.total == 0) (setting-fault GrantsOpen) }
+        ensures { result ≡ refuse_unless (self.now.grants.total == 0) (setting_fault GrantsOpen) }
     {
         if self.grants.total() == 0 {
             Ok(())
@@ -31,7 +31,7 @@ impl<P: Plant> Ledger<Board<P>> {
 
     // What `admit` would answer now.
     pub fn may_admit(&self, r: usize, rule: &TypedRule) -> Result<(), Fault>
-        ensures { result ≡ answer (ledger-of (⟦<Board<P> as Plant>⟧.pile self.now.pile) self.now.grants) (admit r (rule-of rule.now)) }
+        ensures { result ≡ answer (ledger_of (⟦<Board<P> as Plant>⟧.pile self.now.pile) self.now.grants) (admit r (rule_of rule.now)) }
     {
         self.check_none_open()?;
         self.pile.may_set(r, rule)
@@ -39,8 +39,8 @@ impl<P: Plant> Ledger<Board<P>> {
 
     // Sets the row `r` of the board to the rule, while no grant is open.
     pub fn admit(&mut self, r: usize, rule: &TypedRule) -> Result<(), Fault>
-        ensures answer { result ≡ answer (ledger-of (⟦<Board<P> as Plant>⟧.pile self.old.pile) self.old.grants) (admit r (rule-of rule.now)) }
-        ensures after { ledger-of (⟦<Board<P> as Plant>⟧.pile self.new.pile) self.new.grants ≡ next (ledger-of (⟦<Board<P> as Plant>⟧.pile self.old.pile) self.old.grants) (admit r (rule-of rule.now)) }
+        ensures answer { result ≡ answer (ledger_of (⟦<Board<P> as Plant>⟧.pile self.old.pile) self.old.grants) (admit r (rule_of rule.now)) }
+        ensures after { ledger_of (⟦<Board<P> as Plant>⟧.pile self.new.pile) self.new.grants ≡ next (ledger_of (⟦<Board<P> as Plant>⟧.pile self.old.pile) self.old.grants) (admit r (rule_of rule.now)) }
     {
         self.check_none_open()?;
         self.pile.set(r, rule)

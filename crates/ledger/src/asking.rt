@@ -1,10 +1,10 @@
 // What the calls of a ledger would answer now: the checks of each in their order. A question changes nothing.
 ghost use Rattle.std.specs.Prelude.{◌≡◌, ℕ, ◌<◌, not};
 ghost use Rattle.model.specs.declared.refusal.Refusal.TheVariants.{Controllable};
-ghost use Rattle.model.specs.Ledger.{grant, commit, cancel, report, answer, crowded, crowded-place, room-answer, grant-checks, is_open};
-ghost use Rattle.model.specs.Plant.{fault-of, known, refuse-unless};
+ghost use Rattle.model.specs.Ledger.{grant, commit, cancel, report, answer, crowded, crowded_place, room_answer, grant_checks, is_open};
+ghost use Rattle.model.specs.Plant.{fault_of, known, refuse_unless};
 ghost use Rattle.ledger.specs.Grants.{opened};
-ghost use Rattle.ledger.specs.Ledgers.{ledger-of};
+ghost use Rattle.ledger.specs.Ledgers.{ledger_of};
 
 use crate::ledger::Ledger;
 use model::fault::{Fault, Spot};
@@ -14,7 +14,7 @@ use plant::plant::Plant;
 
 // The fault of the move `t`, for no place.
 fn fault(refusal: Refusal, t: usize) -> Fault
-    ensures { result ≡ fault-of refusal t }
+    ensures { result ≡ fault_of refusal t }
 {
     Fault {
         refusal,
@@ -25,7 +25,7 @@ fn fault(refusal: Refusal, t: usize) -> Fault
 
 // Accepted if the test holds, else refused for the move `t`.
 fn check(holds: bool, refusal: Refusal, t: usize) -> Result<(), Fault>
-    ensures { result ≡ refuse-unless holds (fault-of refusal t) }
+    ensures { result ≡ refuse_unless holds (fault_of refusal t) }
 {
     if holds {
         Ok(())
@@ -44,7 +44,7 @@ impl<P: Plant> Ledger<P> {
 
     // The checks of a grant before any place is looked at.
     fn check_grant(&self, t: usize) -> Result<(), Fault>
-        ensures { result ≡ grant-checks (P.Net.net self.now.pile) (opened self.now.grants.counts) t }
+        ensures { result ≡ grant_checks (P.Net.net self.now.pile) (opened self.now.grants.counts) t }
     {
         self.check_known(t)?;
         check(self.pile.controllable(t), Refusal::Uncontrollable, t)?;
@@ -72,7 +72,7 @@ impl<P: Plant> Ledger<P> {
 
     // The lowest place that has no room for the move.
     fn crowded_place(&self, t: usize) -> Option<usize>
-        ensures { result ≡ crowded-place (P.Net.net self.now.pile) (P.Plant.tokens self.now.pile) (opened self.now.grants.counts) t }
+        ensures { result ≡ crowded_place (P.Net.net self.now.pile) (P.Plant.tokens self.now.pile) (opened self.now.grants.counts) t }
     {
         'places: for p in 0..self.pile.places() {
             if self.is_crowded(p, t) {
@@ -84,7 +84,7 @@ impl<P: Plant> Ledger<P> {
 
     // Refused at the lowest place that has no room for the move.
     fn check_room(&self, t: usize) -> Result<(), Fault>
-        ensures { result ≡ room-answer (P.Net.net self.now.pile) (P.Plant.tokens self.now.pile) (opened self.now.grants.counts) t }
+        ensures { result ≡ room_answer (P.Net.net self.now.pile) (P.Plant.tokens self.now.pile) (opened self.now.grants.counts) t }
     {
         match self.crowded_place(t) {
             Some(p) => {
@@ -105,7 +105,7 @@ impl<P: Plant> Ledger<P> {
 
     // What `grant` would answer now.
     pub fn may_grant(&self, t: usize) -> Result<(), Fault>
-        ensures { result ≡ answer (ledger-of (P.Plant.pile self.now.pile) self.now.grants) (grant t) }
+        ensures { result ≡ answer (ledger_of (P.Plant.pile self.now.pile) self.now.grants) (grant t) }
     {
         self.check_grant(t)?;
         self.pile.may_begin(t)?;
@@ -114,7 +114,7 @@ impl<P: Plant> Ledger<P> {
 
     // What `commit` would answer now.
     pub fn may_commit(&self, t: usize) -> Result<(), Fault>
-        ensures { result ≡ answer (ledger-of (P.Plant.pile self.now.pile) self.now.grants) (commit t) }
+        ensures { result ≡ answer (ledger_of (P.Plant.pile self.now.pile) self.now.grants) (commit t) }
     {
         self.check_known(t)?;
         self.check_open(t)?;
@@ -123,7 +123,7 @@ impl<P: Plant> Ledger<P> {
 
     // What `cancel` would answer now.
     pub fn may_cancel(&self, t: usize) -> Result<(), Fault>
-        ensures { result ≡ answer (ledger-of (P.Plant.pile self.now.pile) self.now.grants) (cancel t) }
+        ensures { result ≡ answer (ledger_of (P.Plant.pile self.now.pile) self.now.grants) (cancel t) }
     {
         self.check_known(t)?;
         self.check_open(t)?;
@@ -132,7 +132,7 @@ impl<P: Plant> Ledger<P> {
 
     // What `report` would answer now.
     pub fn may_report(&self, t: usize) -> Result<(), Fault>
-        ensures { result ≡ answer (ledger-of (P.Plant.pile self.now.pile) self.now.grants) (report t) }
+        ensures { result ≡ answer (ledger_of (P.Plant.pile self.now.pile) self.now.grants) (report t) }
     {
         self.check_known(t)?;
         check(!self.pile.controllable(t), Refusal::Controllable, t)?;

@@ -2,7 +2,7 @@
 ghost use Rattle.std.specs.Prelude.{◌≡◌, ℕ, ◌<◌, max, slice_index};
 ghost use Rattle.model.specs.Net.{Net as NetValue};
 ghost use Rattle.model.specs.Ledger.{plus_one, minus_one};
-ghost use Rattle.model.specs.Sizes.{most-all-places, most-open};
+ghost use Rattle.model.specs.Sizes.{most_all_places, most_open};
 ghost use Rattle.ledger.specs.Grants.{opened, Tallied};
 
 use model::sizes::{MOST_ALL_PLACES, MOST_MOVES};
@@ -53,7 +53,7 @@ impl Grants {
 
     // What the open grants may yet bring to the place `p`.
     pub(crate) fn reserved(&self, p: usize) -> u32
-        requires { p < most-all-places }
+        requires { p < most_all_places }
         ensures { result ≡ slice_index self.now.reserved p }
     {
         self.reserved[p]
@@ -63,7 +63,7 @@ impl Grants {
     pub(crate) fn add<N: Net>(&mut self, net: &N, t: usize)
         requires tallied { Tallied (N.Net.net net.now) self.old }
         requires there { t < (N.Net.net net.now).moves }
-        requires room { self.old.total < most-open }
+        requires room { self.old.total < most_open }
         ensures tallied { Tallied (N.Net.net net.now) self.new }
         ensures counts { opened self.new.counts ≡ plus_one (opened self.old.counts) t }
     {

@@ -2,7 +2,7 @@
 ghost use Rattle.std.specs.Prelude.{◌≡◌, ℕ, false, true, IfOk, if◌then◌else◌};
 ghost use Rattle.model.specs.Ledger.{grant, commit, cancel, answer, next};
 ghost use Rattle.layers.specs.Setting.{plain};
-ghost use Rattle.ledger.specs.Ledgers.{ledger-of};
+ghost use Rattle.ledger.specs.Ledgers.{ledger_of};
 
 use crate::ledger::Ledger;
 use model::fault::Fault;
@@ -47,8 +47,8 @@ impl Slip {
 impl<P: Plant> Ledger<P> {
     // Grants the move `t` to a driver, who gets a slip for it.
     pub fn claim(&mut self, t: usize) -> Result<Slip, Fault>
-        ensures answer { plain result ≡ answer (ledger-of (P.Plant.pile self.old.pile) self.old.grants) (grant t) }
-        ensures after { ledger-of (P.Plant.pile self.new.pile) self.new.grants ≡ next (ledger-of (P.Plant.pile self.old.pile) self.old.grants) (grant t) }
+        ensures answer { plain result ≡ answer (ledger_of (P.Plant.pile self.old.pile) self.old.grants) (grant t) }
+        ensures after { ledger_of (P.Plant.pile self.new.pile) self.new.grants ≡ next (ledger_of (P.Plant.pile self.old.pile) self.old.grants) (grant t) }
         ensures slip { IfOk result (λ s. s.transition ≡ t) }
         ensures unspent { IfOk result (λ s. s.spent ≡ false) }
     {
@@ -61,24 +61,24 @@ impl<P: Plant> Ledger<P> {
 
     // Commits the grant of the slip, which is used up even where the commit is refused.
     pub fn commit_slip(&mut self, slip: Slip) -> Result<(), Fault>
-        ensures answer { result ≡ answer (ledger-of (P.Plant.pile self.old.pile) self.old.grants) (commit slip.transition) }
-        ensures after { ledger-of (P.Plant.pile self.new.pile) self.new.grants ≡ next (ledger-of (P.Plant.pile self.old.pile) self.old.grants) (commit slip.transition) }
+        ensures answer { result ≡ answer (ledger_of (P.Plant.pile self.old.pile) self.old.grants) (commit slip.transition) }
+        ensures after { ledger_of (P.Plant.pile self.new.pile) self.new.grants ≡ next (ledger_of (P.Plant.pile self.old.pile) self.old.grants) (commit slip.transition) }
     {
         self.commit(slip.spend())
     }
 
     // Cancels the grant of the slip, which is used up even where the cancel is refused.
     pub fn cancel_slip(&mut self, slip: Slip) -> Result<(), Fault>
-        ensures answer { result ≡ answer (ledger-of (P.Plant.pile self.old.pile) self.old.grants) (cancel slip.transition) }
-        ensures after { ledger-of (P.Plant.pile self.new.pile) self.new.grants ≡ next (ledger-of (P.Plant.pile self.old.pile) self.old.grants) (cancel slip.transition) }
+        ensures answer { result ≡ answer (ledger_of (P.Plant.pile self.old.pile) self.old.grants) (cancel slip.transition) }
+        ensures after { ledger_of (P.Plant.pile self.new.pile) self.new.grants ≡ next (ledger_of (P.Plant.pile self.old.pile) self.old.grants) (cancel slip.transition) }
     {
         self.cancel(slip.spend())
     }
 
     // A driver's move from claim to end: it is committed if it was made, else cancelled.
     pub fn settle(&mut self, slip: Slip, made: bool) -> Result<(), Fault>
-        ensures answer { result ≡ answer (ledger-of (P.Plant.pile self.old.pile) self.old.grants) (if made then commit slip.transition else cancel slip.transition) }
-        ensures after { ledger-of (P.Plant.pile self.new.pile) self.new.grants ≡ next (ledger-of (P.Plant.pile self.old.pile) self.old.grants) (if made then commit slip.transition else cancel slip.transition) }
+        ensures answer { result ≡ answer (ledger_of (P.Plant.pile self.old.pile) self.old.grants) (if made then commit slip.transition else cancel slip.transition) }
+        ensures after { ledger_of (P.Plant.pile self.new.pile) self.new.grants ≡ next (ledger_of (P.Plant.pile self.old.pile) self.old.grants) (if made then commit slip.transition else cancel slip.transition) }
     {
         if !made {
             return self.cancel_slip(slip);

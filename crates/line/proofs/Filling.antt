@@ -30,5 +30,5 @@ filled_more d f n i xs x h l e = record {
     less : (q : ℕ) → q < i + 1 → (q ≡ i → ⊥) → q < i
     less q lt ne = ⊎_elim (λ r. r) (λ r. absurd (ne (omega arith))) (cases_lt q i)
 
-pub filled-all : {A : Type 0} (d : A) (f : ℕ → A) (n i : ℕ) (xs : List A) → Filled d f n i xs → ((q : ℕ) → i ≤ q → f q ≡ d) → (q : ℕ) → get_or xs q d ≡ f q
-filled-all d f n i xs h rest q = ⊎_elim (h.below q) (λ le. h.beyond q le ∙ sym (rest q le)) (cases_lt q i)
+pub filled_all : {A : Type 0} (d : A) (f : ℕ → A) (n i : ℕ) (xs : List A) → Filled d f n i xs → ((q : ℕ) → i ≤ q → f q ≡ d) → (q : ℕ) → get_or xs q d ≡ f q
+filled_all d f n i xs h rest q = ⊎_elim (h.below q) (λ le. h.beyond q le ∙ sym (rest q le)) (cases_lt q i)

@@ -2,32 +2,32 @@
 use Rattle.std.proofs.Common.{◌≡◌, ℕ, ◌<◌, ◌≤◌, Bool, cond, ltb, List, length, get_or, sym, ap, ◌∙◌, ⊎_elim, arith}
 use Rattle.std.proofs.lemmas.List.{get_or_past}
 use Rattle.std.proofs.lemmas.Bool.{cases_lt, lt-ltb, le-ltb, cond-true, cond-false}
-use Rattle.model.specs.Sizes.{most-limit}
+use Rattle.model.specs.Sizes.{most_limit}
 use Rattle.net_text.specs.declared.net.Place.{Place}
 use Rattle.net_text.specs.Nets.{no_place}
-use Rattle.line.specs.Lines.{line-net}
-use Rattle.net_text.specs.Nets.{limit-at, tokens-at}
+use Rattle.line.specs.Lines.{line_net}
+use Rattle.net_text.specs.Nets.{limit_at, tokens_at}
 use Rattle.line.specs.Making.{Slots}
 
-module _ (ps : List Place) (ls ts : List ℕ) (slots : Slots ps) (limits : (p : ℕ) → get_or ls p 0 ≡ limit-at ps p) (tokens : (p : ℕ) → get_or ts p 0 ≡ tokens-at ps p) where
+module _ (ps : List Place) (ls ts : List ℕ) (slots : Slots ps) (limits : (p : ℕ) → get_or ls p 0 ≡ limit_at ps p) (tokens : (p : ℕ) → get_or ts p 0 ≡ tokens_at ps p) where
   past : (p : ℕ) → length ps ≤ p → get_or ps p no_place ≡ no_place
   past p h = get_or_past ps p no_place h
 
-  pub some-made : (p : ℕ) → p < length ps → 1 ≤ get_or ls p 0
-  some-made p h = omega (arith, limits p, (slots p h).some)
+  pub some_made : (p : ℕ) → p < length ps → 1 ≤ get_or ls p 0
+  some_made p h = omega (arith, limits p, (slots p h).some)
 
-  pub small-made : (p : ℕ) → get_or ls p 0 ≤ most-limit
-  small-made p =
+  pub small_made : (p : ℕ) → get_or ls p 0 ≤ most_limit
+  small_made p =
       ⊎_elim (λ h. omega (arith, limits p, (slots p h).small)) (λ h. omega (arith, limits p, ap (λ (x : Place). x.limit) (past p h))) (cases_lt p (length ps))
 
-  pub held-made : (p : ℕ) → get_or ts p 0 ≤ get_or ls p 0
-  held-made p =
+  pub held_made : (p : ℕ) → get_or ts p 0 ≤ get_or ls p 0
+  held_made p =
       ⊎_elim (λ h. omega (arith, limits p, tokens p, (slots p h).within)) (λ h. omega (arith, tokens p, ap (λ (x : Place). x.tokens) (past p h))) (cases_lt p (length ps))
 
-  pub tokens-made : (k : ℕ) → k ≡ length ps → (λ p. cond (ltb p k) (get_or ts p 0) 0) ≡ tokens-at ps
-  tokens-made k e = λ i p. at p i
+  pub tokens_made : (k : ℕ) → k ≡ length ps → (λ p. cond (ltb p k) (get_or ts p 0) 0) ≡ tokens_at ps
+  tokens_made k e = λ i p. at p i
     where
-      at : (p : ℕ) → cond (ltb p k) (get_or ts p 0) 0 ≡ tokens-at ps p
+      at : (p : ℕ) → cond (ltb p k) (get_or ts p 0) 0 ≡ tokens_at ps p
       at p =
           ⊎_elim
           (λ h. cond-true (ltb p k) (get_or ts p 0) 0 (lt-ltb p k h) ∙ tokens p)
@@ -35,5 +35,5 @@ module _ (ps : List Place) (ls ts : List ℕ) (slots : Slots ps) (limits : (p : 
           (cases_lt p k)
 
 -- a line's net is told by its count, its limits and its letters
-pub net-made : (j k : ℕ) (f g : ℕ → ℕ) (a b : ℕ → Bool) → j ≡ k → ((p : ℕ) → f p ≡ g p) → ((t : ℕ) → a t ≡ b t) → line-net j f a ≡ line-net k g b
-net-made j k f g a b e limits letters = λ i. line-net (e i) (λ p. limits p i) (λ t. letters t i)
+pub net_made : (j k : ℕ) (f g : ℕ → ℕ) (a b : ℕ → Bool) → j ≡ k → ((p : ℕ) → f p ≡ g p) → ((t : ℕ) → a t ≡ b t) → line_net j f a ≡ line_net k g b
+net_made j k f g a b e limits letters = λ i. line_net (e i) (λ p. limits p i) (λ t. letters t i)

@@ -1,8 +1,8 @@
 -- The buffer line: places in a row. Each move but the first takes one from the place before it, each but the last gives one to the place after it.
---   line-net         the net of a line of k places, with what is said of their limits and of the moves' letters; all else is 0
---   net-of           the net of a line
---   tokens-of        the tokens at each place of a line
---   line-fault       the fault of a move at a place of a line, which has no layers
+--   line_net         the net of a line of k places, with what is said of their limits and of the moves' letters; all else is 0
+--   net_of           the net of a line
+--   tokens_of        the tokens at each place of a line
+--   line_fault       the fault of a move at a place of a line, which has no layers
 --   Same             two lines with the same counts, limits and letters
 use Rattle.std.specs.Prelude.{◌≡◌, ℕ, ◌+◌, Bool, false, cond, ◌&&◌, Some, ◌==◌, nat_lt, slice_index, slice_index_or}
 use Rattle.model.specs.declared.refusal.Refusal.{Refusal}
@@ -10,9 +10,9 @@ use Rattle.model.specs.declared.fault.Fault.{Fault}
 use Rattle.model.specs.Net.{Net}
 use Rattle.line.specs.declared.line.Line.{Line}
 
-abbrev pub line-net : ℕ → (ℕ → ℕ) → (ℕ → Bool) → Net
-line-net k limits letters = record {
-  ground-places = k;
+abbrev pub line_net : ℕ → (ℕ → ℕ) → (ℕ → Bool) → Net
+line_net k limits letters = record {
+  ground_places = k;
   places = k;
   moves = k + 1;
   controllable = λ t. nat_lt t (k + 1) && letters t;
@@ -24,14 +24,14 @@ line-net k limits letters = record {
   row = λ p. 0;
 }
 
-abbrev pub net-of : Line → Net
-net-of s = line-net s.count (λ p. slice_index s.limits p) (λ t. slice_index_or s.controllable t false)
+abbrev pub net_of : Line → Net
+net_of s = line_net s.count (λ p. slice_index s.limits p) (λ t. slice_index_or s.controllable t false)
 
-abbrev pub tokens-of : Line → ℕ → ℕ
-tokens-of s p = cond (nat_lt p s.count) (slice_index s.tokens p) 0
+abbrev pub tokens_of : Line → ℕ → ℕ
+tokens_of s p = cond (nat_lt p s.count) (slice_index s.tokens p) 0
 
-abbrev pub line-fault : Refusal → ℕ → ℕ → Fault
-line-fault why t p = record { refusal = why; transition = Some t; spot = Some (record { place = p; layer = 0; row = 0 }) }
+abbrev pub line_fault : Refusal → ℕ → ℕ → Fault
+line_fault why t p = record { refusal = why; transition = Some t; spot = Some (record { place = p; layer = 0; row = 0 }) }
 
 pub record Same (a b : Line) : Type 0 where
   pub count : b.count ≡ a.count

@@ -3,22 +3,22 @@
 --   Slots            all of the records are
 --   LineText         the net texts that tell of a line
 --   Decides          b tells whether P is so
---   text-net, text-tokens  the net and the tokens that a text tells of, if it tells of a line
+--   text_net, text_tokens  the net and the tokens that a text tells of, if it tells of a line
 --   Tells            the text n tells of the line l
 --   Made             what is made of a net text: such a line, or nothing if it does not tell of one
 use Rattle.std.specs.Prelude.{◌≡◌, ℕ, ◌+◌, ◌<◌, ◌≤◌, Bool, true, false, List, length, Some, None, vec_items, Option, slice_index_or}
 use Rattle.model.specs.Net.{Net}
-use Rattle.model.specs.Sizes.{most-limit, most-moves}
+use Rattle.model.specs.Sizes.{most_limit, most_moves}
 use Rattle.formats.specs.declared.kind.Kind.TheVariants as kinds
 use Rattle.net_text.specs.declared.net.Place.{Place}
 use Rattle.net_text.specs.declared.net.NetText.{NetText}
-use Rattle.net_text.specs.Nets.{no_place, limit-at, tokens-at, letter_at}
+use Rattle.net_text.specs.Nets.{no_place, limit_at, tokens_at, letter_at}
 use Rattle.line.specs.declared.line.Line.{Line}
-use Rattle.line.specs.Lines.{line-net, net-of, tokens-of}
+use Rattle.line.specs.Lines.{line_net, net_of, tokens_of}
 
 pub record Slot (p : Place) : Type 0 where
   pub some : 1 ≤ p.limit
-  pub small : p.limit ≤ most-limit
+  pub small : p.limit ≤ most_limit
   pub within : p.tokens ≤ p.limit
 
 abbrev pub Slots : List Place → Type 0
@@ -28,23 +28,23 @@ pub record LineText (n : NetText) : Type 0 where
   pub kind : n.kind ≡ kinds.Line
   pub some : 1 ≤ length (vec_items n.places)
   pub moves : length (vec_items n.moves) ≡ length (vec_items n.places) + 1
-  pub few : length (vec_items n.moves) ≤ most-moves
+  pub few : length (vec_items n.moves) ≤ most_moves
   pub slots : Slots (vec_items n.places)
 
 abbrev pub Decides : Bool → Type 0 → Type 0
 Decides true P = P
 Decides false P = P → ⊥
 
-abbrev pub text-net : NetText → Net
-text-net n = line-net (length (vec_items n.places)) (limit-at (vec_items n.places)) (letter_at (vec_items n.moves))
+abbrev pub text_net : NetText → Net
+text_net n = line_net (length (vec_items n.places)) (limit_at (vec_items n.places)) (letter_at (vec_items n.moves))
 
-abbrev pub text-tokens : NetText → ℕ → ℕ
-text-tokens n = tokens-at (vec_items n.places)
+abbrev pub text_tokens : NetText → ℕ → ℕ
+text_tokens n = tokens_at (vec_items n.places)
 
 pub record Tells (n : NetText) (l : Line) : Type 0 where
   pub text : LineText n
-  pub net : net-of l ≡ text-net n
-  pub tokens : tokens-of l ≡ text-tokens n
+  pub net : net_of l ≡ text_net n
+  pub tokens : tokens_of l ≡ text_tokens n
 
 abbrev pub Made : NetText → Option Line → Type 0
 Made n (Some l) = Tells n l

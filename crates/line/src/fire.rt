@@ -1,8 +1,8 @@
 // The line as a net and as a plant.
 ghost use Rattle.std.specs.Prelude.{◌≡◌, ℕ, ◌≤◌};
-ghost use Rattle.model.specs.Layer.{plant-alone};
-ghost use Rattle.line.specs.Lines.{net-of, tokens-of, line-fault};
-ghost use Rattle.model.specs.Plant.{fault-of};
+ghost use Rattle.model.specs.Layer.{plant_alone};
+ghost use Rattle.line.specs.Lines.{net_of, tokens_of, line_fault};
+ghost use Rattle.model.specs.Plant.{fault_of};
 ghost use Rattle.model.specs.declared.refusal.Refusal.TheVariants.{NoMove};
 ghost use Rattle.std.proofs.Common.{rules, arith};
 
@@ -14,7 +14,7 @@ use plant::plant::Plant;
 
 // The fault of a move that the line does not have.
 fn no_move(t: usize) -> Fault
-    ensures { result ≡ fault-of NoMove t }
+    ensures { result ≡ fault_of NoMove t }
 {
     Fault {
         refusal: Refusal::NoMove,
@@ -25,7 +25,7 @@ fn no_move(t: usize) -> Fault
 
 // The fault of the move `t` at the place `p`.
 fn fault(refusal: Refusal, t: usize, p: usize) -> Fault
-    ensures { result ≡ line-fault refusal t p }
+    ensures { result ≡ line_fault refusal t p }
 {
     Fault {
         refusal,
@@ -39,7 +39,7 @@ fn fault(refusal: Refusal, t: usize, p: usize) -> Fault
 }
 
 impl Net for Line {
-    ghost net = { net-of };
+    ghost net = { net_of };
 
     ghost sound = { Prim.search rules };
 
@@ -83,9 +83,9 @@ impl Net for Line {
 }
 
 impl Plant for Line {
-    ghost tokens = { tokens-of };
+    ghost tokens = { tokens_of };
 
-    ghost pile = { λ s. plant-alone (net-of s) (tokens-of s) };
+    ghost pile = { λ s. plant_alone (net_of s) (tokens_of s) };
 
     ghost stacked = { Prim.search rules };
 

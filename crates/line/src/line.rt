@@ -1,6 +1,6 @@
 // The buffer line, and what no value of it is without.
 ghost use Rattle.std.specs.Prelude.{ℕ, ◌<◌, ◌≤◌, slice_index};
-ghost use Rattle.model.specs.Sizes.{most-limit, most-moves};
+ghost use Rattle.model.specs.Sizes.{most_limit, most_moves};
 
 use model::sizes::MOST_MOVES;
 
@@ -15,8 +15,8 @@ pub struct Line {
     pub(crate) tokens: [u32; PLACES],
     pub(crate) controllable: [bool; MOST_MOVES],
     ghost some: { 1 ≤ count },
-    ghost few: { count < most-moves },
+    ghost few: { count < most_moves },
     ghost some_limits: { (p : ℕ) → p < count → 1 ≤ slice_index limits p },
-    ghost small_limits: { (p : ℕ) → slice_index limits p ≤ most-limit },
+    ghost small_limits: { (p : ℕ) → slice_index limits p ≤ most_limit },
     ghost held: { (p : ℕ) → slice_index tokens p ≤ slice_index limits p },
 }

@@ -1,7 +1,7 @@
 // The line that a net text tells of.
 ghost use Rattle.std.specs.Prelude.{◌≡◌, ℕ, ◌<◌, ◌≤◌, false, length, slice_index, slice_index_or};
-ghost use Rattle.model.specs.Sizes.{most-moves};
-ghost use Rattle.net_text.specs.Nets.{limit-at, tokens-at, letter_at};
+ghost use Rattle.model.specs.Sizes.{most_moves};
+ghost use Rattle.net_text.specs.Nets.{limit_at, tokens_at, letter_at};
 ghost use Rattle.line.specs.Making.{Slot, Slots, LineText, Decides, Made};
 
 use crate::line::{Line, PLACES};
@@ -41,8 +41,8 @@ fn is_line(net: &NetText) -> bool
 }
 
 fn limits_of(places: &[Place]) -> [u32; PLACES]
-    requires { length places.now < most-moves }
-    ensures { (p : ℕ) → slice_index result p ≡ limit-at places.now p }
+    requires { length places.now < most_moves }
+    ensures { (p : ℕ) → slice_index result p ≡ limit_at places.now p }
 {
     let mut limits = [0; PLACES];
     for (p, place) in places.iter().enumerate() {
@@ -52,8 +52,8 @@ fn limits_of(places: &[Place]) -> [u32; PLACES]
 }
 
 fn tokens_of(places: &[Place]) -> [u32; PLACES]
-    requires { length places.now < most-moves }
-    ensures { (p : ℕ) → slice_index result p ≡ tokens-at places.now p }
+    requires { length places.now < most_moves }
+    ensures { (p : ℕ) → slice_index result p ≡ tokens_at places.now p }
 {
     let mut tokens = [0; PLACES];
     for (p, place) in places.iter().enumerate() {
@@ -63,7 +63,7 @@ fn tokens_of(places: &[Place]) -> [u32; PLACES]
 }
 
 fn letters_of(moves: &[Move]) -> [bool; MOST_MOVES]
-    requires { length moves.now ≤ most-moves }
+    requires { length moves.now ≤ most_moves }
     ensures { (t : ℕ) → slice_index_or result t false ≡ letter_at moves.now t }
 {
     let mut letters = [false; MOST_MOVES];

@@ -4,123 +4,123 @@ use borrow.Author.Differences.{ints}
 use Rattle.model.specs.Net.{Net, sum, incidence}
 use Rattle.model.specs.Rule.{weighted, raise, positive, negative}
 use Rattle.model.specs.Layer.{InForce}
-use Rattle.model.specs.Sizes.{most-open}
+use Rattle.model.specs.Sizes.{most_open}
 use Rattle.model.specs.Ledger.{taken, reserved, plus_one, minus_one}
 use Rattle.model.specs.Laws.{BlankPlace, Ruled}
-use Rattle.model.proofs.Sums.{sum_one, signed-sum-add}
-use Rattle.model.proofs.Steady.{held-open, Stands, Steady}
+use Rattle.model.proofs.Sums.{sum_one, signed_sum_add}
+use Rattle.model.proofs.Steady.{held_open, Stands, Steady}
 
 -- ---- one more, one less
-pub plus-same : (g : ℕ → ℕ) (t : ℕ) → plus_one g t t ≡ g t + 1
-plus-same g t = ap (λ b. cond b (g t + 1) (g t)) (eq-eqb t t refl)
+pub plus_same : (g : ℕ → ℕ) (t : ℕ) → plus_one g t t ≡ g t + 1
+plus_same g t = ap (λ b. cond b (g t + 1) (g t)) (eq-eqb t t refl)
 
-pub plus-other : (g : ℕ → ℕ) (t u : ℕ) → (u ≡ t → ⊥) → plus_one g t u ≡ g u
-plus-other g t u h = ap (λ b. cond b (g u + 1) (g u)) (ne_eqb u t h)
+pub plus_other : (g : ℕ → ℕ) (t u : ℕ) → (u ≡ t → ⊥) → plus_one g t u ≡ g u
+plus_other g t u h = ap (λ b. cond b (g u + 1) (g u)) (ne_eqb u t h)
 
-pub minus-same : (g : ℕ → ℕ) (t : ℕ) → minus_one g t t ≡ g t - 1
-minus-same g t = ap (λ b. cond b (g t - 1) (g t)) (eq-eqb t t refl)
+pub minus_same : (g : ℕ → ℕ) (t : ℕ) → minus_one g t t ≡ g t - 1
+minus_same g t = ap (λ b. cond b (g t - 1) (g t)) (eq-eqb t t refl)
 
-pub minus-other : (g : ℕ → ℕ) (t u : ℕ) → (u ≡ t → ⊥) → minus_one g t u ≡ g u
-minus-other g t u h = ap (λ b. cond b (g u - 1) (g u)) (ne_eqb u t h)
+pub minus_other : (g : ℕ → ℕ) (t u : ℕ) → (u ≡ t → ⊥) → minus_one g t u ≡ g u
+minus_other g t u h = ap (λ b. cond b (g u - 1) (g u)) (ne_eqb u t h)
 
-pub sum-plus : (k t : ℕ) (g h : ℕ → ℕ) → t < k → sum k (λ u. plus_one g t u * h u) ≡ sum k (λ u. g u * h u) + h t
-sum-plus k t g h l = sum_one k t (h t) (λ u. g u * h u) (λ u. plus_one g t u * h u) l
-    (λ u d. ap (λ x. x * h u) (plus-other g t u d)) (ap (λ x. x * h t) (plus-same g t) ∙ omega arith)
+pub sum_plus : (k t : ℕ) (g h : ℕ → ℕ) → t < k → sum k (λ u. plus_one g t u * h u) ≡ sum k (λ u. g u * h u) + h t
+sum_plus k t g h l = sum_one k t (h t) (λ u. g u * h u) (λ u. plus_one g t u * h u) l
+    (λ u d. ap (λ x. x * h u) (plus_other g t u d)) (ap (λ x. x * h t) (plus_same g t) ∙ omega arith)
 
-pub sum-minus : (k t : ℕ) (g h : ℕ → ℕ) → t < k → 0 < g t → sum k (λ u. g u * h u) ≡ sum k (λ u. minus_one g t u * h u) + h t
-sum-minus k t g h l o = sum_one k t (h t) (λ u. minus_one g t u * h u) (λ u. g u * h u) l
-    (λ u d. ap (λ x. x * h u) (sym (minus-other g t u d))) (more (g t) (minus_one g t t) (h t) o (minus-same g t))
+pub sum_minus : (k t : ℕ) (g h : ℕ → ℕ) → t < k → 0 < g t → sum k (λ u. g u * h u) ≡ sum k (λ u. minus_one g t u * h u) + h t
+sum_minus k t g h l o = sum_one k t (h t) (λ u. minus_one g t u * h u) (λ u. g u * h u) l
+    (λ u d. ap (λ x. x * h u) (sym (minus_other g t u d))) (more (g t) (minus_one g t t) (h t) o (minus_same g t))
   where
     more : (a b c : ℕ) → 0 < a → b ≡ a - 1 → a * c ≡ b * c + c
     more a b c o e = let f : a ≡ suc b = omega arith in ap (λ x. x * c) f ∙ omega arith
 
-pub count-plus : (k t : ℕ) (g : ℕ → ℕ) → t < k → sum k (plus_one g t) ≡ sum k g + 1
-count-plus k t g l = sum_one k t 1 g (plus_one g t) l (plus-other g t) (plus-same g t)
+pub count_plus : (k t : ℕ) (g : ℕ → ℕ) → t < k → sum k (plus_one g t) ≡ sum k g + 1
+count_plus k t g l = sum_one k t 1 g (plus_one g t) l (plus_other g t) (plus_same g t)
 
-pub count-minus : (k t : ℕ) (g : ℕ → ℕ) → t < k → 0 < g t → sum k g ≡ sum k (minus_one g t) + 1
-count-minus k t g l o = sum_one k t 1 (minus_one g t) g l (λ u d. sym (minus-other g t u d)) (omega (arith, minus-same g t))
+pub count_minus : (k t : ℕ) (g : ℕ → ℕ) → t < k → 0 < g t → sum k g ≡ sum k (minus_one g t) + 1
+count_minus k t g l o = sum_one k t 1 (minus_one g t) g l (λ u d. sym (minus_other g t u d)) (omega (arith, minus_same g t))
 
-beyond-plus : (k t : ℕ) (g : ℕ → ℕ) → t < k → ((u : ℕ) → k ≤ u → g u ≡ 0) → (u : ℕ) → k ≤ u → plus_one g t u ≡ 0
-beyond-plus k t g l z u h = plus-other g t u (λ e. omega arith) ∙ z u h
+beyond_plus : (k t : ℕ) (g : ℕ → ℕ) → t < k → ((u : ℕ) → k ≤ u → g u ≡ 0) → (u : ℕ) → k ≤ u → plus_one g t u ≡ 0
+beyond_plus k t g l z u h = plus_other g t u (λ e. omega arith) ∙ z u h
 
-beyond-minus : (k t : ℕ) (g : ℕ → ℕ) → t < k → ((u : ℕ) → k ≤ u → g u ≡ 0) → (u : ℕ) → k ≤ u → minus_one g t u ≡ 0
-beyond-minus k t g l z u h = minus-other g t u (λ e. omega arith) ∙ z u h
+beyond_minus : (k t : ℕ) (g : ℕ → ℕ) → t < k → ((u : ℕ) → k ≤ u → g u ≡ 0) → (u : ℕ) → k ≤ u → minus_one g t u ≡ 0
+beyond_minus k t g l z u h = minus_other g t u (λ e. omega arith) ∙ z u h
 
 -- ---- the invariant of a state that differs in tokens, open grants and book only
 stands_by : (n : Net) (free g free' g' : ℕ → ℕ) (q q' : ℕ → ℤ) (r : InForce) → Stands n free g q r →
-    (weighted n r.worked.weight q' +ℤ pos (free' r.place)) +ℤ pos (held-open n g' r.worked.weight) ≡ r.worked.bound → Stands n free' g' q' r
-stands_by n free g free' g' q q' r s e = record { low = s.low; high = s.high; takes = s.takes; gives = s.gives; adds-up = e; working = s.working }
+    (weighted n r.worked.weight q' +ℤ pos (free' r.place)) +ℤ pos (held_open n g' r.worked.weight) ≡ r.worked.bound → Stands n free' g' q' r
+stands_by n free g free' g' q q' r s e = record { low = s.low; high = s.high; takes = s.takes; gives = s.gives; adds_up = e; working = s.working }
 
-blank-by : (n : Net) (free free' : ℕ → ℕ) (rs : List InForce) (c : ℕ) → (BlankPlace n free c → free' c ≡ 0) → BlankPlace n free c ⊎ Ruled rs c → BlankPlace n free' c ⊎ Ruled rs c
-blank-by n free free' rs c f (inl b) = inl (record { no-free = f b; no-take = b.no-take; no-give = b.no-give })
-blank-by n free free' rs c f (inr r) = inr r
+blank_by : (n : Net) (free free' : ℕ → ℕ) (rs : List InForce) (c : ℕ) → (BlankPlace n free c → free' c ≡ 0) → BlankPlace n free c ⊎ Ruled rs c → BlankPlace n free' c ⊎ Ruled rs c
+blank_by n free free' rs c f (inl b) = inl (record { no_free = f b; no_take = b.no_take; no_give = b.no_give })
+blank_by n free free' rs c f (inr r) = inr r
 
 -- ---- arithmetic of one rule's sum
-pub raise-is : (r : ℤ) → r ≡ pos (positive r) -ℤ pos (negative r)
-raise-is (pos a) = omega (arith, ints)
-raise-is (negsuc a) = omega (arith, ints)
+pub raise_is : (r : ℤ) → r ≡ pos (positive r) -ℤ pos (negative r)
+raise_is (pos a) = omega (arith, ints)
+raise_is (negsuc a) = omega (arith, ints)
 
-grant-sum : (x b : ℤ) (f f' s s' p : ℕ) → (x +ℤ pos f) +ℤ pos s ≡ b → p ≤ f → f' ≡ f - p → s' ≡ s + p → (x +ℤ pos f') +ℤ pos s' ≡ b
-grant-sum x b f f' s s' p h l e k = omega (arith, ints)
+grant_sum : (x b : ℤ) (f f' s s' p : ℕ) → (x +ℤ pos f) +ℤ pos s ≡ b → p ≤ f → f' ≡ f - p → s' ≡ s + p → (x +ℤ pos f') +ℤ pos s' ≡ b
+grant_sum x b f f' s s' p h l e k = omega (arith, ints)
 
-cancel-sum : (x b : ℤ) (f f' s s' p : ℕ) → (x +ℤ pos f) +ℤ pos s ≡ b → f' ≡ f + p → s ≡ s' + p → (x +ℤ pos f') +ℤ pos s' ≡ b
-cancel-sum x b f f' s s' p h e k = omega (arith, ints)
+cancel_sum : (x b : ℤ) (f f' s s' p : ℕ) → (x +ℤ pos f) +ℤ pos s ≡ b → f' ≡ f + p → s ≡ s' + p → (x +ℤ pos f') +ℤ pos s' ≡ b
+cancel_sum x b f f' s s' p h e k = omega (arith, ints)
 
-commit-sum : (x x' b r : ℤ) (f f' s s' p m : ℕ) → (x +ℤ pos f) +ℤ pos s ≡ b → x' ≡ x +ℤ r → r ≡ pos p -ℤ pos m → f' ≡ f + m → s ≡ s' + p → (x' +ℤ pos f') +ℤ pos s' ≡ b
-commit-sum x x' b r f f' s s' p m h a c e k = omega (arith, ints)
+commit_sum : (x x' b r : ℤ) (f f' s s' p m : ℕ) → (x +ℤ pos f) +ℤ pos s ≡ b → x' ≡ x +ℤ r → r ≡ pos p -ℤ pos m → f' ≡ f + m → s ≡ s' + p → (x' +ℤ pos f') +ℤ pos s' ≡ b
+commit_sum x x' b r f f' s s' p m h a c e k = omega (arith, ints)
 
-report-sum : (x x' b r : ℤ) (f f' s p m : ℕ) → (x +ℤ pos f) +ℤ pos s ≡ b → x' ≡ x +ℤ r → r ≡ pos p -ℤ pos m → p ≤ f → f' ≡ f - p + m → (x' +ℤ pos f') +ℤ pos s ≡ b
-report-sum x x' b r f f' s p m h a c l e = omega (arith, ints)
+report_sum : (x x' b r : ℤ) (f f' s p m : ℕ) → (x +ℤ pos f) +ℤ pos s ≡ b → x' ≡ x +ℤ r → r ≡ pos p -ℤ pos m → p ≤ f → f' ≡ f - p + m → (x' +ℤ pos f') +ℤ pos s ≡ b
+report_sum x x' b r f f' s p m h a c l e = omega (arith, ints)
 
 -- ---- the calls
 abbrev pub after : Net → (ℕ → ℤ) → ℕ → ℕ → ℤ
 after n q t p = q p +ℤ incidence n p t
 
-after-weighted : (n : Net) (w q : ℕ → ℤ) (t : ℕ) → weighted n w (after n q t) ≡ weighted n w q +ℤ raise n w t
-after-weighted n w q t = signed-sum-add n.ground-places w q (λ p. incidence n p t)
+after_weighted : (n : Net) (w q : ℕ → ℤ) (t : ℕ) → weighted n w (after n q t) ≡ weighted n w q +ℤ raise n w t
+after_weighted n w q t = signed_sum_add n.ground_places w q (λ p. incidence n p t)
 
 module _ (n : Net) (free g : ℕ → ℕ) (q : ℕ → ℤ) (rs : List InForce) (s : Steady n free g q rs) (t : ℕ) (known : t < n.moves) where
-  pub granted : (free' : ℕ → ℕ) → ((p : ℕ) → free' p ≡ free p - n.take p t) → ((p : ℕ) → p < n.places → n.take p t ≤ free p) → sum n.moves g < most-open →
+  pub granted : (free' : ℕ → ℕ) → ((p : ℕ) → free' p ≡ free p - n.take p t) → ((p : ℕ) → p < n.places → n.take p t ≤ free p) → sum n.moves g < most_open →
       ((p : ℕ) → p < n.places → free p + max (n.take p t) (n.give p t) + reserved n g p ≤ n.limit p + n.take p t) → Steady n free' (plus_one g t) q rs
   granted free' e enough not_full room = record {
     ranges = s.ranges;
-    roomy = λ p l. grant-room (free p) (free' p) (n.take p t) (max (n.take p t) (n.give p t)) (reserved n g p) (reserved n (plus_one g t) p) (n.limit p) (e p) (enough p l) (sum-plus n.moves t g (λ u. max (n.take p u) (n.give p u)) known) (room p l);
-    few = few-more (sum n.moves g) (sum n.moves (plus_one g t)) not_full (count-plus n.moves t g known);
-    beyond = beyond-plus n.moves t g known s.beyond;
-    marked = λ p l. s.marked p l ∙ ap pos (grant-mark (free p) (free' p) (n.take p t) (taken n g p) (taken n (plus_one g t) p) (e p) (enough p (in_all p l)) (sum-plus n.moves t g (λ u. n.take p u) known));
+    roomy = λ p l. grant_room (free p) (free' p) (n.take p t) (max (n.take p t) (n.give p t)) (reserved n g p) (reserved n (plus_one g t) p) (n.limit p) (e p) (enough p l) (sum_plus n.moves t g (λ u. max (n.take p u) (n.give p u)) known) (room p l);
+    few = few_more (sum n.moves g) (sum n.moves (plus_one g t)) not_full (count_plus n.moves t g known);
+    beyond = beyond_plus n.moves t g known s.beyond;
+    marked = λ p l. s.marked p l ∙ ap pos (grant_mark (free p) (free' p) (n.take p t) (taken n g p) (taken n (plus_one g t) p) (e p) (enough p (in_all p l)) (sum_plus n.moves t g (λ u. n.take p u) known));
     rules = λ r m. rule r (s.rules r m);
-    control = λ c l. blank-by n free free' rs c (λ b. e c ∙ none (free c) (n.take c t) b.no-free) (s.control c l);
+    control = λ c l. blank_by n free free' rs c (λ b. e c ∙ none (free c) (n.take c t) b.no_free) (s.control c l);
   }
     where
-      grant-room : (f f' a x h h' l : ℕ) → f' ≡ f - a → a ≤ f → h' ≡ h + x → f + x + h ≤ l + a → f' + h' ≤ l
-      grant-room f f' a x h h' l e m k r = omega arith
+      grant_room : (f f' a x h h' l : ℕ) → f' ≡ f - a → a ≤ f → h' ≡ h + x → f + x + h ≤ l + a → f' + h' ≤ l
+      grant_room f f' a x h h' l e m k r = omega arith
 
-      few-more : (a b : ℕ) → a < most-open → b ≡ a + 1 → b ≤ most-open
-      few-more a b h e = omega arith
+      few_more : (a b : ℕ) → a < most_open → b ≡ a + 1 → b ≤ most_open
+      few_more a b h e = omega arith
 
-      grant-mark : (f f' a h h' : ℕ) → f' ≡ f - a → a ≤ f → h' ≡ h + a → f + h ≡ f' + h'
-      grant-mark f f' a h h' e l k = omega arith
+      grant_mark : (f f' a h h' : ℕ) → f' ≡ f - a → a ≤ f → h' ≡ h + a → f + h ≡ f' + h'
+      grant_mark f f' a h h' e l k = omega arith
 
       none : (f a : ℕ) → f ≡ 0 → f - a ≡ 0
       none f a e = omega arith
 
-      in_all : (p : ℕ) → p < n.ground-places → p < n.places
-      in_all p l = omega (arith, s.ranges.places-all)
+      in_all : (p : ℕ) → p < n.ground_places → p < n.places
+      in_all p l = omega (arith, s.ranges.places_all)
 
       rule : (r : InForce) → Stands n free g q r → Stands n free' (plus_one g t) q r
       rule r k = stands_by n free g free' (plus_one g t) q q r k
-          (grant-sum (weighted n r.worked.weight q) r.worked.bound (free r.place) (free' r.place) (held-open n g r.worked.weight) (held-open n (plus_one g t) r.worked.weight) (n.take r.place t)
-          k.adds-up (enough r.place k.high) (e r.place) (sum-plus n.moves t g (λ u. positive (raise n r.worked.weight u)) known ∙ ap (λ x. held-open n g r.worked.weight + x) (sym (k.takes t))))
+          (grant_sum (weighted n r.worked.weight q) r.worked.bound (free r.place) (free' r.place) (held_open n g r.worked.weight) (held_open n (plus_one g t) r.worked.weight) (n.take r.place t)
+          k.adds_up (enough r.place k.high) (e r.place) (sum_plus n.moves t g (λ u. positive (raise n r.worked.weight u)) known ∙ ap (λ x. held_open n g r.worked.weight + x) (sym (k.takes t))))
 
   pub cancelled : (free' : ℕ → ℕ) → ((p : ℕ) → free' p ≡ free p + n.take p t) → 0 < g t → Steady n free' (minus_one g t) q rs
-  cancelled free' e open-one = record {
+  cancelled free' e open_one = record {
     ranges = s.ranges;
-    roomy = λ p l. room (free p) (free' p) (n.take p t) (n.give p t) (reserved n g p) (reserved n (minus_one g t) p) (n.limit p) (e p) (sum-minus n.moves t g (λ u. max (n.take p u) (n.give p u)) known open-one) (s.roomy p l);
-    few = omega (arith, count-minus n.moves t g known open-one, s.few);
-    beyond = beyond-minus n.moves t g known s.beyond;
-    marked = λ p l. s.marked p l ∙ ap pos (mark (free p) (free' p) (n.take p t) (taken n g p) (taken n (minus_one g t) p) (e p) (sum-minus n.moves t g (λ u. n.take p u) known open-one));
+    roomy = λ p l. room (free p) (free' p) (n.take p t) (n.give p t) (reserved n g p) (reserved n (minus_one g t) p) (n.limit p) (e p) (sum_minus n.moves t g (λ u. max (n.take p u) (n.give p u)) known open_one) (s.roomy p l);
+    few = omega (arith, count_minus n.moves t g known open_one, s.few);
+    beyond = beyond_minus n.moves t g known s.beyond;
+    marked = λ p l. s.marked p l ∙ ap pos (mark (free p) (free' p) (n.take p t) (taken n g p) (taken n (minus_one g t) p) (e p) (sum_minus n.moves t g (λ u. n.take p u) known open_one));
     rules = λ r m. rule r (s.rules r m);
-    control = λ c l. blank-by n free free' rs c (λ b. e c ∙ none (free c) (n.take c t) b.no-free (b.no-take t)) (s.control c l);
+    control = λ c l. blank_by n free free' rs c (λ b. e c ∙ none (free c) (n.take c t) b.no_free (b.no_take t)) (s.control c l);
   }
     where
       room : (f f' a b h h' l : ℕ) → f' ≡ f + a → h ≡ h' + max a b → f + h ≤ l → f' + h' ≤ l
@@ -134,18 +134,18 @@ module _ (n : Net) (free g : ℕ → ℕ) (q : ℕ → ℤ) (rs : List InForce) 
 
       rule : (r : InForce) → Stands n free g q r → Stands n free' (minus_one g t) q r
       rule r k = stands_by n free g free' (minus_one g t) q q r k
-          (cancel-sum (weighted n r.worked.weight q) r.worked.bound (free r.place) (free' r.place) (held-open n g r.worked.weight) (held-open n (minus_one g t) r.worked.weight) (n.take r.place t)
-          k.adds-up (e r.place) (sum-minus n.moves t g (λ u. positive (raise n r.worked.weight u)) known open-one ∙ ap (λ x. held-open n (minus_one g t) r.worked.weight + x) (sym (k.takes t))))
+          (cancel_sum (weighted n r.worked.weight q) r.worked.bound (free r.place) (free' r.place) (held_open n g r.worked.weight) (held_open n (minus_one g t) r.worked.weight) (n.take r.place t)
+          k.adds_up (e r.place) (sum_minus n.moves t g (λ u. positive (raise n r.worked.weight u)) known open_one ∙ ap (λ x. held_open n (minus_one g t) r.worked.weight + x) (sym (k.takes t))))
 
   pub committed : (free' : ℕ → ℕ) → ((p : ℕ) → free' p ≡ free p + n.give p t) → 0 < g t → Steady n free' (minus_one g t) (after n q t) rs
-  committed free' e open-one = record {
+  committed free' e open_one = record {
     ranges = s.ranges;
-    roomy = λ p l. room (free p) (free' p) (n.take p t) (n.give p t) (reserved n g p) (reserved n (minus_one g t) p) (n.limit p) (e p) (sum-minus n.moves t g (λ u. max (n.take p u) (n.give p u)) known open-one) (s.roomy p l);
-    few = omega (arith, count-minus n.moves t g known open-one, s.few);
-    beyond = beyond-minus n.moves t g known s.beyond;
-    marked = λ p l. mark (q p) (free p) (free' p) (n.take p t) (n.give p t) (taken n g p) (taken n (minus_one g t) p) (s.marked p l) (e p) (sum-minus n.moves t g (λ u. n.take p u) known open-one);
+    roomy = λ p l. room (free p) (free' p) (n.take p t) (n.give p t) (reserved n g p) (reserved n (minus_one g t) p) (n.limit p) (e p) (sum_minus n.moves t g (λ u. max (n.take p u) (n.give p u)) known open_one) (s.roomy p l);
+    few = omega (arith, count_minus n.moves t g known open_one, s.few);
+    beyond = beyond_minus n.moves t g known s.beyond;
+    marked = λ p l. mark (q p) (free p) (free' p) (n.take p t) (n.give p t) (taken n g p) (taken n (minus_one g t) p) (s.marked p l) (e p) (sum_minus n.moves t g (λ u. n.take p u) known open_one);
     rules = λ r m. rule r (s.rules r m);
-    control = λ c l. blank-by n free free' rs c (λ b. e c ∙ none (free c) (n.give c t) b.no-free (b.no-give t)) (s.control c l);
+    control = λ c l. blank_by n free free' rs c (λ b. e c ∙ none (free c) (n.give c t) b.no_free (b.no_give t)) (s.control c l);
   }
     where
       room : (f f' a b h h' l : ℕ) → f' ≡ f + b → h ≡ h' + max a b → f + h ≤ l → f' + h' ≤ l
@@ -159,8 +159,8 @@ module _ (n : Net) (free g : ℕ → ℕ) (q : ℕ → ℤ) (rs : List InForce) 
 
       rule : (r : InForce) → Stands n free g q r → Stands n free' (minus_one g t) (after n q t) r
       rule r k = stands_by n free g free' (minus_one g t) q (after n q t) r k
-          (commit-sum (weighted n r.worked.weight q) (weighted n r.worked.weight (after n q t)) r.worked.bound (raise n r.worked.weight t) (free r.place) (free' r.place) (held-open n g r.worked.weight) (held-open n (minus_one g t) r.worked.weight) (positive (raise n r.worked.weight t)) (negative (raise n r.worked.weight t))
-          k.adds-up (after-weighted n r.worked.weight q t) (raise-is (raise n r.worked.weight t)) (e r.place ∙ ap (λ x. free r.place + x) (k.gives t)) (sum-minus n.moves t g (λ u. positive (raise n r.worked.weight u)) known open-one))
+          (commit_sum (weighted n r.worked.weight q) (weighted n r.worked.weight (after n q t)) r.worked.bound (raise n r.worked.weight t) (free r.place) (free' r.place) (held_open n g r.worked.weight) (held_open n (minus_one g t) r.worked.weight) (positive (raise n r.worked.weight t)) (negative (raise n r.worked.weight t))
+          k.adds_up (after_weighted n r.worked.weight q t) (raise_is (raise n r.worked.weight t)) (e r.place ∙ ap (λ x. free r.place + x) (k.gives t)) (sum_minus n.moves t g (λ u. positive (raise n r.worked.weight u)) known open_one))
 
   pub reported : (free' : ℕ → ℕ) → ((p : ℕ) → free' p ≡ free p - n.take p t + n.give p t) → ((p : ℕ) → p < n.places → n.take p t ≤ free p) →
       ((p : ℕ) → p < n.places → free p + max (n.take p t) (n.give p t) + reserved n g p ≤ n.limit p + n.take p t) → Steady n free' g (after n q t) rs
@@ -171,7 +171,7 @@ module _ (n : Net) (free g : ℕ → ℕ) (q : ℕ → ℤ) (rs : List InForce) 
     beyond = s.beyond;
     marked = λ p l. mark (q p) (free p) (free' p) (n.take p t) (n.give p t) (taken n g p) (s.marked p l) (e p) (enough p (in_all p l));
     rules = λ r m. rule r (s.rules r m);
-    control = λ c l. blank-by n free free' rs c (λ b. e c ∙ none (free c) (n.take c t) (n.give c t) b.no-free (b.no-give t)) (s.control c l);
+    control = λ c l. blank_by n free free' rs c (λ b. e c ∙ none (free c) (n.take c t) (n.give c t) b.no_free (b.no_give t)) (s.control c l);
   }
     where
       fits : (f f' a b h l : ℕ) → f' ≡ f - a + b → a ≤ f → f + max a b + h ≤ l + a → f' + h ≤ l
@@ -183,13 +183,13 @@ module _ (n : Net) (free g : ℕ → ℕ) (q : ℕ → ℤ) (rs : List InForce) 
       none : (f a b : ℕ) → f ≡ 0 → b ≡ 0 → f - a + b ≡ 0
       none f a b e k = omega arith
 
-      in_all : (p : ℕ) → p < n.ground-places → p < n.places
-      in_all p l = omega (arith, s.ranges.places-all)
+      in_all : (p : ℕ) → p < n.ground_places → p < n.places
+      in_all p l = omega (arith, s.ranges.places_all)
 
       rule : (r : InForce) → Stands n free g q r → Stands n free' g (after n q t) r
       rule r k = stands_by n free g free' g q (after n q t) r k
-          (report-sum (weighted n r.worked.weight q) (weighted n r.worked.weight (after n q t)) r.worked.bound (raise n r.worked.weight t) (free r.place) (free' r.place) (held-open n g r.worked.weight) (positive (raise n r.worked.weight t)) (negative (raise n r.worked.weight t))
-          k.adds-up (after-weighted n r.worked.weight q t) (raise-is (raise n r.worked.weight t)) (subst (λ (x : ℕ). x ≤ free r.place) (k.takes t) (enough r.place k.high))
+          (report_sum (weighted n r.worked.weight q) (weighted n r.worked.weight (after n q t)) r.worked.bound (raise n r.worked.weight t) (free r.place) (free' r.place) (held_open n g r.worked.weight) (positive (raise n r.worked.weight t)) (negative (raise n r.worked.weight t))
+          k.adds_up (after_weighted n r.worked.weight q t) (raise_is (raise n r.worked.weight t)) (subst (λ (x : ℕ). x ≤ free r.place) (k.takes t) (enough r.place k.high))
           (e r.place ∙ swap (free r.place) (n.take r.place t) (n.give r.place t) (positive (raise n r.worked.weight t)) (negative (raise n r.worked.weight t)) (k.takes t) (k.gives t)))
         where
           swap : (f a b a' b' : ℕ) → a ≡ a' → b ≡ b' → f - a + b ≡ f - a' + b'

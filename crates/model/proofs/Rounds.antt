@@ -7,26 +7,26 @@ use borrow.Author.Tests.{eqb-false, not-true, both_ways}
 use borrow.Author.Differences.{ints, up, down, same_in, sum_is_lem, product_is, neg_is}
 use Rattle.model.specs.declared.refusal.Refusal.TheVariants.{NotTyped, TooLarge}
 use Rattle.model.specs.declared.fault.Fault.{Fault}
-use Rattle.model.specs.Sizes.{most-all-places, most-weight, most-bound, most-worked-weight, most-worked-bound, most-rounds}
-use Rattle.model.specs.Net.{Net, signed-sum, incidence}
-use Rattle.model.specs.Plant.{lowest, setting-fault}
-use Rattle.model.specs.Rule.{Rule, Worked, raise, positive, in-range, all-below}
-use Rattle.model.specs.Working.{divisor, rising, falls, changed, fits, at_place, at-move, at-end, rounds-from, ground-only, is-typed, unchanged}
+use Rattle.model.specs.Sizes.{most_all_places, most_weight, most_bound, most_worked_weight, most_worked_bound, most_rounds}
+use Rattle.model.specs.Net.{Net, signed_sum, incidence}
+use Rattle.model.specs.Plant.{lowest, setting_fault}
+use Rattle.model.specs.Rule.{Rule, Worked, raise, positive, in_range, all_below}
+use Rattle.model.specs.Working.{divisor, rising, falls, changed, fits, at_place, at_move, at_end, rounds_from, ground_only, is_typed, unchanged}
 use Rattle.model.specs.Rounds.{CanBeTyped, Small, Gcd, LowestRising, Round, none, more, Quiet, WorkedOut, RoundsSay, WorkSays}
 use Rattle.model.specs.Laws.{WorkingSays, IsRound, DivisorGcd}
-use Rattle.model.proofs.Sums.{distrib, distrib-right}
-use Rattle.model.proofs.Checks.{lowest-some, lowest-none}
-use Rattle.model.proofs.Working.{and-true, all-below-says, range-weights, range-bound}
+use Rattle.model.proofs.Sums.{distrib, distrib_right}
+use Rattle.model.proofs.Checks.{lowest_some, lowest_none}
+use Rattle.model.proofs.Working.{and_true, all_below_says, range_weights, range_bound}
 
 -- ---- the greatest common divisor
 record Scan (k a e h : ℕ) : Type 0 where
   some : 1 ≤ h
-  of-a : h * (a / h) ≡ a
-  of-e : h * (e / h) ≡ e
+  of_a : h * (a / h) ≡ a
+  of_e : h * (e / h) ≡ e
   most : (d : ℕ) → d ∣ a → d ∣ e → d ≤ k → d ≤ h
 
 scan : (k a e : ℕ) → Scan k a e (divisor k a e)
-scan zero a e = record { some = omega arith; of-a = one a; of-e = one e; most = λ d x y l. omega arith }
+scan zero a e = record { some = omega arith; of_a = one a; of_e = one e; most = λ d x y l. omega arith }
   where
     one : (a : ℕ) → 1 * (a / 1) ≡ a
     one a = mul-div_cancel' 1 (dvd_of_mod-eq-zero 1 (omega (arith, mod-add-div a 1)))
@@ -38,25 +38,25 @@ scan (suc k) a e = go (eqb (a % suc k) 0) (eqb (e % suc k) 0) refl refl (scan k 
     go : (x y : Bool) → eqb (a % suc k) 0 ≡ x → eqb (e % suc k) 0 ≡ y → Scan k a e (divisor k a e) → Scan (suc k) a e (cond (x && y) (suc k) (divisor k a e))
     go true true p q s = record {
       some = omega arith;
-      of-a = mul-div_cancel' (suc k) (dvd_of_mod-eq-zero (suc k) (eqb-true (a % suc k) 0 p));
-      of-e = mul-div_cancel' (suc k) (dvd_of_mod-eq-zero (suc k) (eqb-true (e % suc k) 0 q));
+      of_a = mul-div_cancel' (suc k) (dvd_of_mod-eq-zero (suc k) (eqb-true (a % suc k) 0 p));
+      of_e = mul-div_cancel' (suc k) (dvd_of_mod-eq-zero (suc k) (eqb-true (e % suc k) 0 q));
       most = λ d x y l. l;
     }
-    go true false p q s = record { some = s.some; of-a = s.of-a; of-e = s.of-e; most = λ d x y l. less d k (divisor k a e) l (λ z. eqb-false (e % suc k) 0 q (subst (λ (i : ℕ). e % i ≡ 0) z (mod-eq-zero_of_dvd d y))) (s.most d x y) }
-    go false y p q s = record { some = s.some; of-a = s.of-a; of-e = s.of-e; most = λ d x z l. less d k (divisor k a e) l (λ w. eqb-false (a % suc k) 0 p (subst (λ (i : ℕ). a % i ≡ 0) w (mod-eq-zero_of_dvd d x))) (s.most d x z) }
+    go true false p q s = record { some = s.some; of_a = s.of_a; of_e = s.of_e; most = λ d x y l. less d k (divisor k a e) l (λ z. eqb-false (e % suc k) 0 q (subst (λ (i : ℕ). e % i ≡ 0) z (mod-eq-zero_of_dvd d y))) (s.most d x y) }
+    go false y p q s = record { some = s.some; of_a = s.of_a; of_e = s.of_e; most = λ d x z l. less d k (divisor k a e) l (λ w. eqb-false (a % suc k) 0 p (subst (λ (i : ℕ). a % i ≡ 0) w (mod-eq-zero_of_dvd d x))) (s.most d x z) }
 
-pub dvd-small : (d e : ℕ) → 1 ≤ e → d ∣ e → d ≤ e
-dvd-small d e l h = go (e / d) (mul-div_cancel' d h)
+pub dvd_small : (d e : ℕ) → 1 ≤ e → d ∣ e → d ≤ e
+dvd_small d e l h = go (e / d) (mul-div_cancel' d h)
   where
     go : (k : ℕ) → d * k ≡ e → d ≤ e
     go zero q = absurd (omega arith)
     go (suc k) q = omega arith
 
-pub divisor-gcd : DivisorGcd
-divisor-gcd a e l = record { some = (scan e a e).some; of-a = (scan e a e).of-a; of-e = (scan e a e).of-e; most = λ d x y. (scan e a e).most d x y (dvd-small d e l y) }
+pub divisor_gcd : DivisorGcd
+divisor_gcd a e l = record { some = (scan e a e).some; of_a = (scan e a e).of_a; of_e = (scan e a e).of_e; most = λ d x y. (scan e a e).most d x y (dvd_small d e l y) }
 
-assoc-any : (k : ℕ) (w d : ℤ) → (pos k *ℤ w) *ℤ d ≡ pos k *ℤ (w *ℤ d)
-assoc-any k w d = same_in ((pos k *ℤ w) *ℤ d) (pos k *ℤ (w *ℤ d))
+assoc_any : (k : ℕ) (w d : ℤ) → (pos k *ℤ w) *ℤ d ≡ pos k *ℤ (w *ℤ d)
+assoc_any k w d = same_in ((pos k *ℤ w) *ℤ d) (pos k *ℤ (w *ℤ d))
     (omega (
       arith,
       product_is (pos k *ℤ w) d,
@@ -94,21 +94,21 @@ part_step g b p d = go (eqb g p) refl (ltb p g) refl
         past : (g p : ℕ) → (g ≡ p → ⊥) → g ≤ p → suc g ≤ p
         past g p n l = omega arith
 
-pub absorb-sum : (g k b p : ℕ) (w d : ℕ → ℤ) → signed-sum g (λ i. (pos k *ℤ w i +ℤ cond (eqb i p) (pos b) (pos 0)) *ℤ d i) ≡ pos k *ℤ signed-sum g (λ i. w i *ℤ d i) +ℤ part g b p d
-absorb-sum zero k b p w d = ap (λ z. z) (nil k) ∙ ap (λ z. pos k *ℤ pos 0 +ℤ cond z (pos b *ℤ d p) (pos 0)) (sym (le-ltb p 0 zero-le))
+pub absorb_sum : (g k b p : ℕ) (w d : ℕ → ℤ) → signed_sum g (λ i. (pos k *ℤ w i +ℤ cond (eqb i p) (pos b) (pos 0)) *ℤ d i) ≡ pos k *ℤ signed_sum g (λ i. w i *ℤ d i) +ℤ part g b p d
+absorb_sum zero k b p w d = ap (λ z. z) (nil k) ∙ ap (λ z. pos k *ℤ pos 0 +ℤ cond z (pos b *ℤ d p) (pos 0)) (sym (le-ltb p 0 zero-le))
   where
     nil : (k : ℕ) → pos 0 ≡ pos k *ℤ pos 0 +ℤ pos 0
     nil k = omega (arith, ints)
-absorb-sum (suc g) k b p w d =
-    ap₂ (λ x y. x +ℤ y) (absorb-sum g k b p w d) (distrib-right (pos k *ℤ w g) (cond (eqb g p) (pos b) (pos 0)) (d g) ∙ ap (λ x. x +ℤ cond (eqb g p) (pos b) (pos 0) *ℤ d g) (assoc-any k (w g) (d g)))
-    ∙ mix (pos k *ℤ signed-sum g (λ i. w i *ℤ d i)) (part g b p d) (pos k *ℤ (w g *ℤ d g)) (cond (eqb g p) (pos b) (pos 0) *ℤ d g)
-    ∙ ap₂ (λ x y. x +ℤ y) (sym (distrib (pos k) (signed-sum g (λ i. w i *ℤ d i)) (w g *ℤ d g))) (sym (part_step g b p d))
+absorb_sum (suc g) k b p w d =
+    ap₂ (λ x y. x +ℤ y) (absorb_sum g k b p w d) (distrib_right (pos k *ℤ w g) (cond (eqb g p) (pos b) (pos 0)) (d g) ∙ ap (λ x. x +ℤ cond (eqb g p) (pos b) (pos 0) *ℤ d g) (assoc_any k (w g) (d g)))
+    ∙ mix (pos k *ℤ signed_sum g (λ i. w i *ℤ d i)) (part g b p d) (pos k *ℤ (w g *ℤ d g)) (cond (eqb g p) (pos b) (pos 0) *ℤ d g)
+    ∙ ap₂ (λ x y. x +ℤ y) (sym (distrib (pos k) (signed_sum g (λ i. w i *ℤ d i)) (w g *ℤ d g))) (sym (part_step g b p d))
   where
     mix : (a b c d : ℤ) → (a +ℤ b) +ℤ (c +ℤ d) ≡ (a +ℤ c) +ℤ (b +ℤ d)
     mix a b c d = omega (arith, ints)
 
-level-nat : (h a e x y : ℕ) → h * x ≡ a → h * y ≡ e → y * a ≡ x * e
-level-nat h a e x y p q = omega (arith, ap (λ z. y * z) p, ap (λ z. x * z) q, mul_comm x y)
+level_nat : (h a e x y : ℕ) → h * x ≡ a → h * y ≡ e → y * a ≡ x * e
+level_nat h a e x y p q = omega (arith, ap (λ z. y * z) p, ap (λ z. x * z) q, mul_comm x y)
 
 level : (x y a e : ℕ) (d : ℤ) → y * a ≡ x * e → d ≡ neg_ℤ (pos e) → pos y *ℤ pos a +ℤ pos x *ℤ d ≡ pos 0
 level x y a e d p q = ap (λ z. pos y *ℤ pos a +ℤ pos x *ℤ z) q ∙ go
@@ -117,28 +117,28 @@ level x y a e d p q = ap (λ z. pos y *ℤ pos a +ℤ pos x *ℤ z) q ∙ go
     go = same_in (pos y *ℤ pos a +ℤ pos x *ℤ neg_ℤ (pos e)) (pos 0) (omega (arith, sum_is_lem (pos y *ℤ pos a) (pos x *ℤ neg_ℤ (pos e)), product_is (pos y) (pos a), product_is (pos x) (neg_ℤ (pos e)), ap (λ z. x * z) (neg_is (pos e)).0, ap (λ z. x * z) (neg_is (pos e)).1))
 
 -- ---- the model's round is such a round
-pos-is : (z : ℤ) → lt_z (pos 0) z ≡ true → z ≡ pos (positive z)
-pos-is (pos n) e = refl
-pos-is (negsuc n) e = absurd (omega (arith, ints))
+pos_is : (z : ℤ) → lt_z (pos 0) z ≡ true → z ≡ pos (positive z)
+pos_is (pos n) e = refl
+pos_is (negsuc n) e = absurd (omega (arith, ints))
 
-pos-some : (z : ℤ) → lt_z (pos 0) z ≡ true → 1 ≤ positive z
-pos-some (pos n) e = omega (arith, ints)
-pos-some (negsuc n) e = absurd (omega (arith, ints))
+pos_some : (z : ℤ) → lt_z (pos 0) z ≡ true → 1 ≤ positive z
+pos_some (pos n) e = omega (arith, ints)
+pos_some (negsuc n) e = absurd (omega (arith, ints))
 
 quiet_at : (b : Bool) (z : ℤ) → b ≡ false → not b && lt_z (pos 0) z ≡ false → z ≤ℤ pos 0
 quiet_at true z e k = absurd (subst T e tt)
 quiet_at false z e k = omega (arith, ints)
 
 module _ (n : Net) (r : Worked) (t p : ℕ)
-    (mv : lowest (rising n r) 0 n.moves ≡ Some t) (pl : lowest (falls n t) 0 n.ground-places ≡ Some p) where
+    (mv : lowest (rising n r) 0 n.moves ≡ Some t) (pl : lowest (falls n t) 0 n.ground_places ≡ Some p) where
   m : (rising n r t ≡ true) × (t < n.moves) × ((j : ℕ) → j < t → rising n r j ≡ false)
-  m = lowest-some (rising n r) n.moves t mv
+  m = lowest_some (rising n r) n.moves t mv
 
-  q : (ltb (n.give p t) (n.take p t) ≡ true) × (p < n.ground-places) × ((j : ℕ) → j < p → ltb (n.give j t) (n.take j t) ≡ false)
-  q = lowest-some (falls n t) n.ground-places p pl
+  q : (ltb (n.give p t) (n.take p t) ≡ true) × (p < n.ground_places) × ((j : ℕ) → j < p → ltb (n.give j t) (n.take j t) ≡ false)
+  q = lowest_some (falls n t) n.ground_places p pl
 
   k : (not (n.controllable t) ≡ true) × (lt_z (pos 0) (raise n r.weight t) ≡ true)
-  k = and-true (not (n.controllable t)) (lt_z (pos 0) (raise n r.weight t)) m.0
+  k = and_true (not (n.controllable t)) (lt_z (pos 0) (raise n r.weight t)) m.0
 
   abbrev ra : ℕ
   ra = positive (raise n r.weight t)
@@ -149,25 +149,25 @@ module _ (n : Net) (r : Worked) (t p : ℕ)
   abbrev rh : ℕ
   rh = divisor re ra re
 
-  re-some : 1 ≤ re
-  re-some = omega (arith, ltb-true (n.give p t) (n.take p t) q.0)
+  re_some : 1 ≤ re
+  re_some = omega (arith, ltb-true (n.give p t) (n.take p t) q.0)
 
   g : Gcd ra re rh
-  g = divisor-gcd ra re re-some
+  g = divisor_gcd ra re re_some
 
   down_by : (a b : ℕ) → ltb b a ≡ true → pos b -ℤ pos a ≡ neg_ℤ (pos (a - b))
   down_by a b e = let l : b < a = ltb-true b a e in omega (arith, ints)
 
-  level-here : raise n (changed n r t p).weight t ≡ pos 0
-  level-here = absorb-sum n.ground-places (re / rh) (ra / rh) p r.weight (λ i. incidence n i t)
-      ∙ ap₂ (λ x y. pos (re / rh) *ℤ x +ℤ cond y (pos (ra / rh) *ℤ incidence n p t) (pos 0)) (pos-is (raise n r.weight t) k.1) (lt-ltb p n.ground-places q.1)
-      ∙ level (ra / rh) (re / rh) ra re (incidence n p t) (level-nat rh ra re (ra / rh) (re / rh) g.of-a g.of-e) (down_by (n.take p t) (n.give p t) q.0)
+  level_here : raise n (changed n r t p).weight t ≡ pos 0
+  level_here = absorb_sum n.ground_places (re / rh) (ra / rh) p r.weight (λ i. incidence n i t)
+      ∙ ap₂ (λ x y. pos (re / rh) *ℤ x +ℤ cond y (pos (ra / rh) *ℤ incidence n p t) (pos 0)) (pos_is (raise n r.weight t) k.1) (lt-ltb p n.ground_places q.1)
+      ∙ level (ra / rh) (re / rh) ra re (incidence n p t) (level_nat rh ra re (ra / rh) (re / rh) g.of_a g.of_e) (down_by (n.take p t) (n.give p t) q.0)
 
   plain : (x : ℤ) → x +ℤ pos 0 ≡ x
   plain x = omega (arith, ints)
 
-  is-round-here : Round n r (changed n r t p)
-  is-round-here = record {
+  is_round_here : Round n r (changed n r t p)
+  is_round_here = record {
     move = t;
     place = p;
     a = ra;
@@ -176,54 +176,54 @@ module _ (n : Net) (r : Worked) (t p : ℕ)
     rising = record {
       known = m.1;
       uncontrollable = not-true (n.controllable t) k.0;
-      raises = pos-is (raise n r.weight t) k.1;
-      some = pos-some (raise n r.weight t) k.1;
-      lowest-one = λ u l c. quiet_at (n.controllable u) (raise n r.weight u) c (m.2 u l);
+      raises = pos_is (raise n r.weight t) k.1;
+      some = pos_some (raise n r.weight t) k.1;
+      lowest_one = λ u l c. quiet_at (n.controllable u) (raise n r.weight u) c (m.2 u l);
     };
     place_in = q.1;
     takes = omega (arith, ltb-true (n.give p t) (n.take p t) q.0);
-    e-some = re-some;
-    place-lowest = λ i l. ltb-false (n.give i t) (n.take i t) (q.2 i l);
+    e_some = re_some;
+    place_lowest = λ i l. ltb-false (n.give i t) (n.take i t) (q.2 i l);
     gcd = g;
     at_place = ap (λ b. pos (re / rh) *ℤ r.weight p +ℤ cond b (pos (ra / rh)) (pos 0)) (eq-eqb p p refl);
     elsewhere = λ i d. ap (λ b. pos (re / rh) *ℤ r.weight i +ℤ cond b (pos (ra / rh)) (pos 0)) (ne_eqb i p d) ∙ plain (pos (re / rh) *ℤ r.weight i);
     bound = refl;
     counted = refl;
-    levelled = level-here;
+    levelled = level_here;
   }
 
-pub is-round : IsRound
-is-round n w t p = is-round-here n w t p
+pub is_round : IsRound
+is_round n w t p = is_round_here n w t p
 
 -- ---- what the answer of working says, when so many rounds may change the rule
-small-says : (n : Net) (w : Worked) → fits n w ≡ true → Small n w
-small-says n w e = record { weights = range-weights most-worked-weight most-worked-bound n w.weight w.bound e; bound-in = range-bound most-worked-weight most-worked-bound n w.weight w.bound e }
+small_says : (n : Net) (w : Worked) → fits n w ≡ true → Small n w
+small_says n w e = record { weights = range_weights most_worked_weight most_worked_bound n w.weight w.bound e; bound_in = range_bound most_worked_weight most_worked_bound n w.weight w.bound e }
 
 -- a test that holds of each number below k
-all-below-if : (f : ℕ → Bool) (k : ℕ) → ((i : ℕ) → i < k → f i ≡ true) → all-below f k ≡ true
-all-below-if f zero h = refl
-all-below-if f (suc k) h = ap₂ (λ a b. a && b) (all-below-if f k (λ i l. h i (omega arith))) (h k (omega arith))
+all_below_if : (f : ℕ → Bool) (k : ℕ) → ((i : ℕ) → i < k → f i ≡ true) → all_below f k ≡ true
+all_below_if f zero h = refl
+all_below_if f (suc k) h = ap₂ (λ a b. a && b) (all_below_if f k (λ i l. h i (omega arith))) (h k (omega arith))
 
-range-if : (most-w most-b : ℕ) (n : Net) (l : ℕ → ℤ) (b : ℤ) → ((p : ℕ) → p < n.ground-places → nat_abs (l p) ≤ most-w) → nat_abs b ≤ most-b → in-range most-w most-b n l b ≡ true
-range-if most-w most-b n l b h k = ap₂ (λ x y. x && y) (all-below-if (λ p. leb (nat_abs (l p)) most-w) n.ground-places (λ p m. le-leb (nat_abs (l p)) most-w (h p m))) (le-leb (nat_abs b) most-b k)
+range_if : (most_w most_b : ℕ) (n : Net) (l : ℕ → ℤ) (b : ℤ) → ((p : ℕ) → p < n.ground_places → nat_abs (l p) ≤ most_w) → nat_abs b ≤ most_b → in_range most_w most_b n l b ≡ true
+range_if most_w most_b n l b h k = ap₂ (λ x y. x && y) (all_below_if (λ p. leb (nat_abs (l p)) most_w) n.ground_places (λ p m. le-leb (nat_abs (l p)) most_w (h p m))) (le-leb (nat_abs b) most_b k)
 
-small-not : (n : Net) (w : Worked) → fits n w ≡ false → Small n w → ⊥
-small-not n w e h = both_ways (fits n w) e (range-if most-worked-weight most-worked-bound n w.weight w.bound h.weights h.bound-in)
+small_not : (n : Net) (w : Worked) → fits n w ≡ false → Small n w → ⊥
+small_not n w e h = both_ways (fits n w) e (range_if most_worked_weight most_worked_bound n w.weight w.bound h.weights h.bound_in)
 
-is-rising : (n : Net) (r : Worked) (t : ℕ) → lowest (rising n r) 0 n.moves ≡ Some t → LowestRising n r t (positive (raise n r.weight t))
-is-rising n r t e =
-    let m = lowest-some (rising n r) n.moves t e in
-    let k = and-true (not (n.controllable t)) (lt_z (pos 0) (raise n r.weight t)) m.0 in
+is_rising : (n : Net) (r : Worked) (t : ℕ) → lowest (rising n r) 0 n.moves ≡ Some t → LowestRising n r t (positive (raise n r.weight t))
+is_rising n r t e =
+    let m = lowest_some (rising n r) n.moves t e in
+    let k = and_true (not (n.controllable t)) (lt_z (pos 0) (raise n r.weight t)) m.0 in
     record {
       known = m.1;
       uncontrollable = not-true (n.controllable t) k.0;
-      raises = pos-is (raise n r.weight t) k.1;
-      some = pos-some (raise n r.weight t) k.1;
-      lowest-one = λ u l c. quiet_at (n.controllable u) (raise n r.weight u) c (m.2 u l);
+      raises = pos_is (raise n r.weight t) k.1;
+      some = pos_some (raise n r.weight t) k.1;
+      lowest_one = λ u l c. quiet_at (n.controllable u) (raise n r.weight u) c (m.2 u l);
     }
 
-is-quiet : (n : Net) (r : Worked) → lowest (rising n r) 0 n.moves ≡ None → Quiet n r
-is-quiet n r e t l c = quiet_at (n.controllable t) (raise n r.weight t) c (lowest-none (rising n r) n.moves e t l)
+is_quiet : (n : Net) (r : Worked) → lowest (rising n r) 0 n.moves ≡ None → Quiet n r
+is_quiet n r e t l c = quiet_at (n.controllable t) (raise n r.weight t) c (lowest_none (rising n r) n.moves e t l)
 
 one_later : (a b : ℕ) → a ≤ b → suc a ≤ suc b
 one_later a b l = omega arith
@@ -235,64 +235,64 @@ later n k r s d ok (Ok w) h = record { count = suc h.count; few = one_later h.co
     up1 a b c k e f = omega arith
 later n k r s d ok (Err f) (inl h) = inl (h.0, record { last = h.1.last; chain = more d ok h.1.chain; move = h.1.move; raised = h.1.raised; rising = h.1.rising })
 later n k r s d ok (Err f) (inr (inl h)) = inr (inl (h.0, record { count = suc h.1.count; few = one_later (suc h.1.count) k h.1.few; last = h.1.last; chain = more d ok h.1.chain; move = h.1.move; raised = h.1.raised; rising = h.1.rising; no_place = h.1.no_place }))
-later n k r s d ok (Err f) (inr (inr h)) = inr (inr (h.0, record { count = suc h.1.count; few = one_later (suc h.1.count) k h.1.few; last = h.1.last; chain = more d ok h.1.chain; big = h.1.big; round = h.1.round; not-small = h.1.not-small }))
+later n k r s d ok (Err f) (inr (inr h)) = inr (inr (h.0, record { count = suc h.1.count; few = one_later (suc h.1.count) k h.1.few; last = h.1.last; chain = more d ok h.1.chain; big = h.1.big; round = h.1.round; not_small = h.1.not_small }))
 
-ends-here : (n : Net) (k : ℕ) (r : Worked) → lowest (rising n r) 0 n.moves ≡ None → WorkedOut n k r r
-ends-here n k r e = record { count = 0; few = zero-le; counted = same r.rounds; chain = none n r; quiet = is-quiet n r e }
+ends_here : (n : Net) (k : ℕ) (r : Worked) → lowest (rising n r) 0 n.moves ≡ None → WorkedOut n k r r
+ends_here n k r e = record { count = 0; few = zero-le; counted = same r.rounds; chain = none n r; quiet = is_quiet n r e }
   where
     same : (a : ℕ) → a ≡ a + 0
     same a = omega arith
 
-end-says : (n : Net) (r : Worked) (o : Option ℕ) → lowest (rising n r) 0 n.moves ≡ o → RoundsSay n 0 r (at-end r o)
-end-says n r None e = ends-here n 0 r e
-end-says n r (Some t) e = inl (refl, record { last = r; chain = none n r; move = t; raised = positive (raise n r.weight t); rising = is-rising n r t e })
+end_says : (n : Net) (r : Worked) (o : Option ℕ) → lowest (rising n r) 0 n.moves ≡ o → RoundsSay n 0 r (at_end r o)
+end_says n r None e = ends_here n 0 r e
+end_says n r (Some t) e = inl (refl, record { last = r; chain = none n r; move = t; raised = positive (raise n r.weight t); rising = is_rising n r t e })
 
 module _ (n : Net) (r : Worked) (k : ℕ) (on : Worked → Result Worked Fault) (rec : (s : Worked) → RoundsSay n k s (on s)) where
-  size-says : (t p : ℕ) → lowest (rising n r) 0 n.moves ≡ Some t → lowest (falls n t) 0 n.ground-places ≡ Some p → (b : Bool) → fits n (changed n r t p) ≡ b → RoundsSay n (suc k) r (cond b (on (changed n r t p)) (Err (setting-fault TooLarge)))
-  size-says t p e q true z = later n k r (changed n r t p) (is-round n r t p e q) (small-says n (changed n r t p) z) (on (changed n r t p)) (rec (changed n r t p))
-  size-says t p e q false z = inr (inr (refl, record { count = 0; few = omega arith; last = r; chain = none n r; big = changed n r t p; round = is-round n r t p e q; not-small = small-not n (changed n r t p) z }))
+  size_says : (t p : ℕ) → lowest (rising n r) 0 n.moves ≡ Some t → lowest (falls n t) 0 n.ground_places ≡ Some p → (b : Bool) → fits n (changed n r t p) ≡ b → RoundsSay n (suc k) r (cond b (on (changed n r t p)) (Err (setting_fault TooLarge)))
+  size_says t p e q true z = later n k r (changed n r t p) (is_round n r t p e q) (small_says n (changed n r t p) z) (on (changed n r t p)) (rec (changed n r t p))
+  size_says t p e q false z = inr (inr (refl, record { count = 0; few = omega arith; last = r; chain = none n r; big = changed n r t p; round = is_round n r t p e q; not_small = small_not n (changed n r t p) z }))
 
-  place-says : (t : ℕ) → lowest (rising n r) 0 n.moves ≡ Some t → (o : Option ℕ) → lowest (falls n t) 0 n.ground-places ≡ o → RoundsSay n (suc k) r (at_place on n r t o)
-  place-says t e (Some p) q = size-says t p e q (fits n (changed n r t p)) refl
-  place-says t e None q = inr (inl (refl, record { count = 0; few = omega arith; last = r; chain = none n r; move = t; raised = positive (raise n r.weight t); rising = is-rising n r t e; no_place = λ p l. ltb-false (n.give p t) (n.take p t) (lowest-none (falls n t) n.ground-places q p l) }))
+  place_says : (t : ℕ) → lowest (rising n r) 0 n.moves ≡ Some t → (o : Option ℕ) → lowest (falls n t) 0 n.ground_places ≡ o → RoundsSay n (suc k) r (at_place on n r t o)
+  place_says t e (Some p) q = size_says t p e q (fits n (changed n r t p)) refl
+  place_says t e None q = inr (inl (refl, record { count = 0; few = omega arith; last = r; chain = none n r; move = t; raised = positive (raise n r.weight t); rising = is_rising n r t e; no_place = λ p l. ltb-false (n.give p t) (n.take p t) (lowest_none (falls n t) n.ground_places q p l) }))
 
-  move-says : (o : Option ℕ) → lowest (rising n r) 0 n.moves ≡ o → RoundsSay n (suc k) r (at-move on n r o)
-  move-says None e = ends-here n (suc k) r e
-  move-says (Some t) e = place-says t e (lowest (falls n t) 0 n.ground-places) refl
+  move_says : (o : Option ℕ) → lowest (rising n r) 0 n.moves ≡ o → RoundsSay n (suc k) r (at_move on n r o)
+  move_says None e = ends_here n (suc k) r e
+  move_says (Some t) e = place_says t e (lowest (falls n t) 0 n.ground_places) refl
 
-pub rounds-say : (k : ℕ) (n : Net) (r : Worked) → RoundsSay n k r (rounds-from k n r)
-unfolding rounds-from
-rounds-say zero n r = end-says n r (lowest (rising n r) 0 n.moves) refl
-rounds-say (suc k) n r = move-says n r k (rounds-from k n) (λ s. rounds-say k n s) (lowest (rising n r) 0 n.moves) refl
+pub rounds_say : (k : ℕ) (n : Net) (r : Worked) → RoundsSay n k r (rounds_from k n r)
+unfolding rounds_from
+rounds_say zero n r = end_says n r (lowest (rising n r) 0 n.moves) refl
+rounds_say (suc k) n r = move_says n r k (rounds_from k n) (λ s. rounds_say k n s) (lowest (rising n r) 0 n.moves) refl
 
 -- ---- the rules that can be typed
-typed-says : (n : Net) (r : Rule) → is-typed n r ≡ true → CanBeTyped n r
-typed-says n r e =
-    let c = and-true (in-range most-weight most-bound n r.weight r.bound) (ground-only n r) e in
+typed_says : (n : Net) (r : Rule) → is_typed n r ≡ true → CanBeTyped n r
+typed_says n r e =
+    let c = and_true (in_range most_weight most_bound n r.weight r.bound) (ground_only n r) e in
     record {
-      weights = range-weights most-weight most-bound n r.weight r.bound c.0;
-      elsewhere = λ p l k. off p l (ltb p n.ground-places) refl (all-below-says (λ i. ltb i n.ground-places || eqb (nat_abs (r.weight i)) 0) most-all-places c.1 p k);
-      bound-in = range-bound most-weight most-bound n r.weight r.bound c.0;
+      weights = range_weights most_weight most_bound n r.weight r.bound c.0;
+      elsewhere = λ p l k. off p l (ltb p n.ground_places) refl (all_below_says (λ i. ltb i n.ground_places || eqb (nat_abs (r.weight i)) 0) most_all_places c.1 p k);
+      bound_in = range_bound most_weight most_bound n r.weight r.bound c.0;
     }
   where
-    zero-abs : (z : ℤ) → nat_abs z ≡ 0 → z ≡ pos 0
-    zero-abs z e = omega (arith, ints)
+    zero_abs : (z : ℤ) → nat_abs z ≡ 0 → z ≡ pos 0
+    zero_abs z e = omega (arith, ints)
 
-    off : (p : ℕ) → n.ground-places ≤ p → (b : Bool) → ltb p n.ground-places ≡ b → b || eqb (nat_abs (r.weight p)) 0 ≡ true → r.weight p ≡ pos 0
-    off p l true d k = absurd (omega (arith, ltb-true p n.ground-places d))
-    off p l false d k = zero-abs (r.weight p) (eqb-true (nat_abs (r.weight p)) 0 k)
+    off : (p : ℕ) → n.ground_places ≤ p → (b : Bool) → ltb p n.ground_places ≡ b → b || eqb (nat_abs (r.weight p)) 0 ≡ true → r.weight p ≡ pos 0
+    off p l true d k = absurd (omega (arith, ltb-true p n.ground_places d))
+    off p l false d k = zero_abs (r.weight p) (eqb-true (nat_abs (r.weight p)) 0 k)
 
-typed-if : (n : Net) (r : Rule) → CanBeTyped n r → is-typed n r ≡ true
-typed-if n r h = ap₂ (λ x y. x && y) (range-if most-weight most-bound n r.weight r.bound h.weights h.bound-in)
-    (all-below-if (λ p. ltb p n.ground-places || eqb (nat_abs (r.weight p)) 0) most-all-places (λ p l. on p l (ltb p n.ground-places) refl))
+typed_if : (n : Net) (r : Rule) → CanBeTyped n r → is_typed n r ≡ true
+typed_if n r h = ap₂ (λ x y. x && y) (range_if most_weight most_bound n r.weight r.bound h.weights h.bound_in)
+    (all_below_if (λ p. ltb p n.ground_places || eqb (nat_abs (r.weight p)) 0) most_all_places (λ p l. on p l (ltb p n.ground_places) refl))
   where
-    on : (p : ℕ) → p < most-all-places → (b : Bool) → ltb p n.ground-places ≡ b → b || eqb (nat_abs (r.weight p)) 0 ≡ true
+    on : (p : ℕ) → p < most_all_places → (b : Bool) → ltb p n.ground_places ≡ b → b || eqb (nat_abs (r.weight p)) 0 ≡ true
     on p l true d = refl
-    on p l false d = eq-eqb (nat_abs (r.weight p)) 0 (ap nat_abs (h.elsewhere p (ltb-false p n.ground-places d) l))
+    on p l false d = eq-eqb (nat_abs (r.weight p)) 0 (ap nat_abs (h.elsewhere p (ltb-false p n.ground_places d) l))
 
-pub working-says : WorkingSays
-working-says n typed = go (is-typed n typed) refl
+pub working_says : WorkingSays
+working_says n typed = go (is_typed n typed) refl
   where
-    go : (b : Bool) → is-typed n typed ≡ b → WorkSays n typed (cond b (rounds-from most-rounds n (unchanged typed)) (Err (setting-fault NotTyped)))
-    go true e = inl (typed-says n typed e, rounds-say most-rounds n (unchanged typed))
-    go false e = inr (λ h. both_ways (is-typed n typed) e (typed-if n typed h), refl)
+    go : (b : Bool) → is_typed n typed ≡ b → WorkSays n typed (cond b (rounds_from most_rounds n (unchanged typed)) (Err (setting_fault NotTyped)))
+    go true e = inl (typed_says n typed e, rounds_say most_rounds n (unchanged typed))
+    go false e = inr (λ h. both_ways (is_typed n typed) e (typed_if n typed h), refl)

@@ -1,40 +1,40 @@
 -- The state equation: after every list the marking is the first marking and D times the moves fired.
 use Rattle.std.proofs.Common.{◌≡◌, ℕ, zero, suc, ◌+◌, ◌<◌, ◌≤◌, Bool, true, false, cond, eqb, ltb, List, [], ◌∷◌, ℤ, pos, ◌+ℤ◌, ◌-ℤ◌, ◌*ℤ◌, sym, refl, ap, ◌∙◌, subst, arith, ltb-false}
 use borrow.Author.Differences.{ints}
-use Rattle.model.specs.Net.{Net, Ranges, signed-sum, incidence}
-use Rattle.model.specs.Layer.{pile-net}
-use Rattle.model.specs.Ledger.{Call, grant, commit, cancel, report, admit, new-ledger, answers}
-use Rattle.model.specs.Book.{Book, new-book, noted, book-from, acceptances}
-use Rattle.model.specs.Laws.{fires-once, fired, StateEquation}
-use Rattle.model.proofs.Sums.{signed-sum-ext}
-use Rattle.model.proofs.Rounds.{part, absorb-sum}
-use Rattle.model.proofs.Running.{ready, ready-new}
+use Rattle.model.specs.Net.{Net, Ranges, signed_sum, incidence}
+use Rattle.model.specs.Layer.{pile_net}
+use Rattle.model.specs.Ledger.{Call, grant, commit, cancel, report, admit, new_ledger, answers}
+use Rattle.model.specs.Book.{Book, new_book, noted, book_from, acceptances}
+use Rattle.model.specs.Laws.{fires_once, fired, StateEquation}
+use Rattle.model.proofs.Sums.{signed_sum_ext}
+use Rattle.model.proofs.Rounds.{part, absorb_sum}
+use Rattle.model.proofs.Running.{ready, ready_new}
 
 module _ (n : Net) (R : Ranges n) where
-  none-sum : (k : ℕ) (d : ℕ → ℤ) → signed-sum k (λ u. pos 0 *ℤ d u) ≡ pos 0
-  none-sum zero d = refl
-  none-sum (suc k) d = omega (arith, ints, none-sum k d)
+  none_sum : (k : ℕ) (d : ℕ → ℤ) → signed_sum k (λ u. pos 0 *ℤ d u) ≡ pos 0
+  none_sum zero d = refl
+  none_sum (suc k) d = omega (arith, ints, none_sum k d)
 
-  no-incidence : (p t : ℕ) → n.moves ≤ t → incidence n p t ≡ pos 0
-  no-incidence p t l = go (n.give p t) (n.take p t) (R.no_move p t l).1 (R.no_move p t l).0
+  no_incidence : (p t : ℕ) → n.moves ≤ t → incidence n p t ≡ pos 0
+  no_incidence p t l = go (n.give p t) (n.take p t) (R.no_move p t l).1 (R.no_move p t l).0
     where
       go : (a b : ℕ) → a ≡ 0 → b ≡ 0 → pos a -ℤ pos b ≡ pos 0
       go a b e k = omega (arith, ints)
 
-  part-is : (p t : ℕ) → part n.moves 1 t (λ u. incidence n p u) ≡ incidence n p t
-  part-is p t = go (ltb t n.moves) refl
+  part_is : (p t : ℕ) → part n.moves 1 t (λ u. incidence n p u) ≡ incidence n p t
+  part_is p t = go (ltb t n.moves) refl
     where
       one : (z : ℤ) → pos 1 *ℤ z ≡ z
       one z = omega (arith, ints)
 
       go : (b : Bool) → ltb t n.moves ≡ b → cond b (pos 1 *ℤ incidence n p t) (pos 0) ≡ incidence n p t
       go true e = one (incidence n p t)
-      go false e = sym (no-incidence p t (ltb-false t n.moves e))
+      go false e = sym (no_incidence p t (ltb-false t n.moves e))
 
-  bump : (p t : ℕ) (f : ℕ → ℕ) → signed-sum n.moves (λ u. pos (cond (eqb u t) 1 0 + f u) *ℤ incidence n p u) ≡ incidence n p t +ℤ signed-sum n.moves (λ u. pos (f u) *ℤ incidence n p u)
-  bump p t f = signed-sum-ext n.moves (λ u. pos (cond (eqb u t) 1 0 + f u) *ℤ incidence n p u) (λ u. (pos 1 *ℤ pos (f u) +ℤ cond (eqb u t) (pos 1) (pos 0)) *ℤ incidence n p u) (λ u l. ap (λ z. z *ℤ incidence n p u) (split (eqb u t) (f u)))
-      ∙ absorb-sum n.moves 1 1 t (λ u. pos (f u)) (λ u. incidence n p u)
-      ∙ swap (signed-sum n.moves (λ u. pos (f u) *ℤ incidence n p u)) (part n.moves 1 t (λ u. incidence n p u)) (incidence n p t) (part-is p t)
+  bump : (p t : ℕ) (f : ℕ → ℕ) → signed_sum n.moves (λ u. pos (cond (eqb u t) 1 0 + f u) *ℤ incidence n p u) ≡ incidence n p t +ℤ signed_sum n.moves (λ u. pos (f u) *ℤ incidence n p u)
+  bump p t f = signed_sum_ext n.moves (λ u. pos (cond (eqb u t) 1 0 + f u) *ℤ incidence n p u) (λ u. (pos 1 *ℤ pos (f u) +ℤ cond (eqb u t) (pos 1) (pos 0)) *ℤ incidence n p u) (λ u l. ap (λ z. z *ℤ incidence n p u) (split (eqb u t) (f u)))
+      ∙ absorb_sum n.moves 1 1 t (λ u. pos (f u)) (λ u. incidence n p u)
+      ∙ swap (signed_sum n.moves (λ u. pos (f u) *ℤ incidence n p u)) (part n.moves 1 t (λ u. incidence n p u)) (incidence n p t) (part_is p t)
     where
       split : (b : Bool) (x : ℕ) → pos (cond b 1 0 + x) ≡ pos 1 *ℤ pos x +ℤ cond b (pos 1) (pos 0)
       split true x = omega (arith, ints)
@@ -45,36 +45,36 @@ module _ (n : Net) (R : Ranges n) where
 
   module _ (first : ℕ) (p : ℕ) where
     abbrev moved : (ℕ → ℕ) → ℤ
-    moved f = signed-sum n.moves (λ u. pos (f u) *ℤ incidence n p u)
+    moved f = signed_sum n.moves (λ u. pos (f u) *ℤ incidence n p u)
 
     glue : (q d s t x : ℤ) → x ≡ (q +ℤ d) +ℤ s → t ≡ d +ℤ s → x ≡ q +ℤ t
     glue q d s t x e k = omega (arith, ints)
 
-    zero-and : (f : ℕ → ℕ) → moved (λ u. 0 + f u) ≡ moved f
-    zero-and f = signed-sum-ext n.moves (λ u. pos (0 + f u) *ℤ incidence n p u) (λ u. pos (f u) *ℤ incidence n p u) (λ u l. ap (λ x. pos x *ℤ incidence n p u) (omega arith))
+    zero_and : (f : ℕ → ℕ) → moved (λ u. 0 + f u) ≡ moved f
+    zero_and f = signed_sum_ext n.moves (λ u. pos (0 + f u) *ℤ incidence n p u) (λ u. pos (f u) *ℤ incidence n p u) (λ u l. ap (λ x. pos x *ℤ incidence n p u) (omega arith))
 
     still : (q x : ℤ) (f : ℕ → ℕ) → x ≡ q +ℤ moved f → x ≡ q +ℤ moved (λ u. 0 + f u)
-    still q x f e = e ∙ ap (λ z. q +ℤ z) (sym (zero-and f))
+    still q x f e = e ∙ ap (λ z. q +ℤ z) (sym (zero_and f))
 
-    module _ (cs : List Call) (xs : List Bool) (rec : (b : Book) → (book-from n first b cs xs).q p ≡ b.q p +ℤ moved (fired cs xs)) where
-      one-call : (c : Call) (x : Bool) (b : Book) → (book-from n first (cond x (noted n first b c) b) cs xs).q p ≡ b.q p +ℤ moved (λ u. cond x (fires-once c u) 0 + fired cs xs u)
-      one-call c false b = still (b.q p) ((book-from n first b cs xs).q p) (fired cs xs) (rec b)
-      one-call (grant t) true b = still (b.q p) ((book-from n first (noted n first b (grant t)) cs xs).q p) (fired cs xs) (rec (noted n first b (grant t)))
-      one-call (cancel t) true b = still (b.q p) ((book-from n first (noted n first b (cancel t)) cs xs).q p) (fired cs xs) (rec (noted n first b (cancel t)))
-      one-call (admit r y) true b = still (b.q p) ((book-from n first (noted n first b (admit r y)) cs xs).q p) (fired cs xs) (rec (noted n first b (admit r y)))
-      one-call (commit t) true b = glue (b.q p) (incidence n p t) (moved (fired cs xs)) (moved (λ u. cond (eqb u t) 1 0 + fired cs xs u)) ((book-from n first (noted n first b (commit t)) cs xs).q p) (rec (noted n first b (commit t))) (bump p t (fired cs xs))
-      one-call (report t) true b = glue (b.q p) (incidence n p t) (moved (fired cs xs)) (moved (λ u. cond (eqb u t) 1 0 + fired cs xs u)) ((book-from n first (noted n first b (report t)) cs xs).q p) (rec (noted n first b (report t))) (bump p t (fired cs xs))
+    module _ (cs : List Call) (xs : List Bool) (rec : (b : Book) → (book_from n first b cs xs).q p ≡ b.q p +ℤ moved (fired cs xs)) where
+      one_call : (c : Call) (x : Bool) (b : Book) → (book_from n first (cond x (noted n first b c) b) cs xs).q p ≡ b.q p +ℤ moved (λ u. cond x (fires_once c u) 0 + fired cs xs u)
+      one_call c false b = still (b.q p) ((book_from n first b cs xs).q p) (fired cs xs) (rec b)
+      one_call (grant t) true b = still (b.q p) ((book_from n first (noted n first b (grant t)) cs xs).q p) (fired cs xs) (rec (noted n first b (grant t)))
+      one_call (cancel t) true b = still (b.q p) ((book_from n first (noted n first b (cancel t)) cs xs).q p) (fired cs xs) (rec (noted n first b (cancel t)))
+      one_call (admit r y) true b = still (b.q p) ((book_from n first (noted n first b (admit r y)) cs xs).q p) (fired cs xs) (rec (noted n first b (admit r y)))
+      one_call (commit t) true b = glue (b.q p) (incidence n p t) (moved (fired cs xs)) (moved (λ u. cond (eqb u t) 1 0 + fired cs xs u)) ((book_from n first (noted n first b (commit t)) cs xs).q p) (rec (noted n first b (commit t))) (bump p t (fired cs xs))
+      one_call (report t) true b = glue (b.q p) (incidence n p t) (moved (fired cs xs)) (moved (λ u. cond (eqb u t) 1 0 + fired cs xs u)) ((book_from n first (noted n first b (report t)) cs xs).q p) (rec (noted n first b (report t))) (bump p t (fired cs xs))
 
     nil : (q s : ℤ) → s ≡ pos 0 → q ≡ q +ℤ s
     nil q s e = omega (arith, ints)
 
-    state-book : (cs : List Call) (xs : List Bool) (b : Book) → (book-from n first b cs xs).q p ≡ b.q p +ℤ moved (fired cs xs)
-    state-book [] xs b = nil (b.q p) (signed-sum n.moves (λ u. pos 0 *ℤ incidence n p u)) (none-sum n.moves (λ u. incidence n p u))
-    state-book (c ∷ cs) [] b = nil (b.q p) (signed-sum n.moves (λ u. pos 0 *ℤ incidence n p u)) (none-sum n.moves (λ u. incidence n p u))
-    state-book (c ∷ cs) (x ∷ xs) b = one-call cs xs (λ b. state-book cs xs b) c x b
+    state_book : (cs : List Call) (xs : List Bool) (b : Book) → (book_from n first b cs xs).q p ≡ b.q p +ℤ moved (fired cs xs)
+    state_book [] xs b = nil (b.q p) (signed_sum n.moves (λ u. pos 0 *ℤ incidence n p u)) (none_sum n.moves (λ u. incidence n p u))
+    state_book (c ∷ cs) [] b = nil (b.q p) (signed_sum n.moves (λ u. pos 0 *ℤ incidence n p u)) (none_sum n.moves (λ u. incidence n p u))
+    state_book (c ∷ cs) (x ∷ xs) b = one_call cs xs (λ b. state_book cs xs b) c x b
 
-pub state-equation : StateEquation
-state-equation p rs built cs i l =
+pub state_equation : StateEquation
+state_equation p rs built cs i l =
     let r = ready p rs built cs in
-    sym (r.steady.marked i (subst (λ (g : ℕ). i < g) (sym r.same.same-ground) l))
-    ∙ state-book (pile-net p) (ready-new p rs built).steady.ranges p.below.places i cs (acceptances (answers (new-ledger p) cs)) (new-book p rs)
+    sym (r.steady.marked i (subst (λ (g : ℕ). i < g) (sym r.same.same_ground) l))
+    ∙ state_book (pile_net p) (ready_new p rs built).steady.ranges p.below.places i cs (acceptances (answers (new_ledger p) cs)) (new_book p rs)

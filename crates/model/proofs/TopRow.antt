@@ -9,71 +9,71 @@ use borrow.Author.Differences.{ints}
 use Rattle.model.specs.declared.refusal.Refusal.TheVariants.{Shut, RowInUse, Broken}
 use Rattle.model.specs.declared.fault.Fault.{Fault}
 use Rattle.model.specs.Net.{Net, Ranges}
-use Rattle.model.specs.Plant.{setting-fault, refuse-unless, ◌else-by◌}
-use Rattle.model.specs.Rule.{Rule, Worked, raise, positive, negative, weighted-free}
+use Rattle.model.specs.Plant.{setting_fault, refuse_unless, ◌else_by◌}
+use Rattle.model.specs.Rule.{Rule, Worked, raise, positive, negative, weighted_free}
 use Rattle.model.specs.Working.{work}
-use Rattle.model.specs.Layer.{Row, is-shut, masked-take, masked-give, ruled-row, holds-now, Top, plant, monitor, board, row_count, open-rows, Pile, pile-net, pile-free, row-place, with-rule, change-row, top-answer, InForce, in-force}
+use Rattle.model.specs.Layer.{Row, is_shut, masked_take, masked_give, ruled_row, holds_now, Top, plant, monitor, board, row_count, open_rows, Pile, pile_net, pile_free, row_place, with_rule, change_row, top_answer, InForce, in_force}
 use Rattle.model.specs.Laws.{SameGround}
-use Rattle.model.proofs.Checks.{else-ok, refuse-unless-ok}
-use Rattle.model.proofs.Working.{same-raise, work-on-ground, work-quiets}
-use Rattle.model.proofs.Setting.{raise-none, positive-none, set-net, set_free}
+use Rattle.model.proofs.Checks.{else_ok, refuse_unless_ok}
+use Rattle.model.proofs.Working.{same_raise, work_on_ground, work_quiets}
+use Rattle.model.proofs.Setting.{raise_none, positive_none, set_net, set_free}
 use Rattle.model.proofs.Placing.{placed}
-use Rattle.model.proofs.Layering.{open-net, net-opens, free-opens, layer-same, layer-weighted, changed_row}
+use Rattle.model.proofs.Layering.{open_net, net_opens, free_opens, layer_same, layer_weighted, changed_row}
 use Rattle.model.proofs.Steady.{Steady, Shape}
 
 -- ---- which rows are in use
-used-more : (rows : ℕ → Row) (r : ℕ) (new : Row) (k : ℕ) → new.in_use ≡ true → (rows k).in_use ≡ true → (change-row rows r new k).in_use ≡ true
-used-more rows r new k u e = go (eqb k r)
+used_more : (rows : ℕ → Row) (r : ℕ) (new : Row) (k : ℕ) → new.in_use ≡ true → (rows k).in_use ≡ true → (change_row rows r new k).in_use ≡ true
+used_more rows r new k u e = go (eqb k r)
   where
     go : (b : Bool) → (cond b new (rows k)).in_use ≡ true
     go true = u
     go false = e
 
-settled-more : (p : Pile) (r : ℕ) (w : Worked) (i : InForce) → (i.place < p.below.places) ⊎ ((k : ℕ) × (i.place ≡ row-place p k) × ((p.rows k).in_use ≡ true)) →
-    (i.place < p.below.places) ⊎ ((k : ℕ) × (i.place ≡ row-place p k) × (((with-rule p r w).rows k).in_use ≡ true))
-settled-more p r w i (inl l) = inl l
-settled-more p r w i (inr h) = inr (h.0, h.1, used-more p.rows r (ruled-row p.below p.below_free w) h.0 refl h.2)
+settled_more : (p : Pile) (r : ℕ) (w : Worked) (i : InForce) → (i.place < p.below.places) ⊎ ((k : ℕ) × (i.place ≡ row_place p k) × ((p.rows k).in_use ≡ true)) →
+    (i.place < p.below.places) ⊎ ((k : ℕ) × (i.place ≡ row_place p k) × (((with_rule p r w).rows k).in_use ≡ true))
+settled_more p r w i (inl l) = inl l
+settled_more p r w i (inr h) = inr (h.0, h.1, used_more p.rows r (ruled_row p.below p.below_free w) h.0 refl h.2)
 
-settled-new : (p : Pile) (r : ℕ) (typed : Rule) (w : Worked) (rs : List InForce) → Shape p rs →
-    (i : InForce) → (i ≡ in-force p r typed w) ⊎ Memᴰ i rs → (i.place < p.below.places) ⊎ ((k : ℕ) × (i.place ≡ row-place p k) × (((with-rule p r w).rows k).in_use ≡ true))
-settled-new p r typed w rs h i (inl e) = inr (r, ap (λ (x : InForce). x.place) e, ap (λ b. (cond b (ruled-row p.below p.below_free w) (p.rows r)).in_use) (eq-eqb r r refl))
-settled-new p r typed w rs h i (inr m) = settled-more p r w i (h.settled i m)
+settled_new : (p : Pile) (r : ℕ) (typed : Rule) (w : Worked) (rs : List InForce) → Shape p rs →
+    (i : InForce) → (i ≡ in_force p r typed w) ⊎ Memᴰ i rs → (i.place < p.below.places) ⊎ ((k : ℕ) × (i.place ≡ row_place p k) × (((with_rule p r w).rows k).in_use ≡ true))
+settled_new p r typed w rs h i (inl e) = inr (r, ap (λ (x : InForce). x.place) e, ap (λ b. (cond b (ruled_row p.below p.below_free w) (p.rows r)).in_use) (eq-eqb r r refl))
+settled_new p r typed w rs h i (inr m) = settled_more p r w i (h.settled i m)
 
-pub fresh-place : (p : Pile) (r : ℕ) (i : InForce) → (p.rows r).in_use ≡ false → (i.place < p.below.places) ⊎ ((k : ℕ) × (i.place ≡ row-place p k) × ((p.rows k).in_use ≡ true)) → i.place ≡ row-place p r → ⊥
-fresh-place p r i u (inl l) e = omega arith
-fresh-place p r i u (inr h) e =
+pub fresh_place : (p : Pile) (r : ℕ) (i : InForce) → (p.rows r).in_use ≡ false → (i.place < p.below.places) ⊎ ((k : ℕ) × (i.place ≡ row_place p k) × ((p.rows k).in_use ≡ true)) → i.place ≡ row_place p r → ⊥
+fresh_place p r i u (inl l) e = omega arith
+fresh_place p r i u (inr h) e =
     let q : h.0 ≡ r = omega (arith, h.1) in
     both_ways (p.rows r).in_use u (subst (λ (k : ℕ). (p.rows k).in_use ≡ true) q h.2)
 
 -- ---- what a setting's acceptance says
 pub record Setting (p : Pile) (r : ℕ) (typed : Rule) : Type 0 where
-  pub open-layer : is-shut (row_count p.top) p.below ≡ false
+  pub open_layer : is_shut (row_count p.top) p.below ≡ false
   pub unused : (p.rows r).in_use ≡ false
-  pub held-now : holds-now p.below p.below_free (work p.below typed) ≡ Ok tt
+  pub held_now : holds_now p.below p.below_free (work p.below typed) ≡ Ok tt
 
-pub top-says : (p : Pile) (r : ℕ) (typed : Rule) → top-answer p r typed ≡ Ok tt → Setting p r typed
-top-says p r typed e =
-    let e₁ = else-ok (refuse-unless (not (is-shut (row_count p.top) p.below)) (setting-fault Shut)) (refuse-unless (not (p.rows r).in_use) (setting-fault RowInUse) else-by holds-now p.below p.below_free (work p.below typed)) e in
-    let e₂ = else-ok (refuse-unless (not (p.rows r).in_use) (setting-fault RowInUse)) (holds-now p.below p.below_free (work p.below typed)) e₁.1 in
+pub top_says : (p : Pile) (r : ℕ) (typed : Rule) → top_answer p r typed ≡ Ok tt → Setting p r typed
+top_says p r typed e =
+    let e₁ = else_ok (refuse_unless (not (is_shut (row_count p.top) p.below)) (setting_fault Shut)) (refuse_unless (not (p.rows r).in_use) (setting_fault RowInUse) else_by holds_now p.below p.below_free (work p.below typed)) e in
+    let e₂ = else_ok (refuse_unless (not (p.rows r).in_use) (setting_fault RowInUse)) (holds_now p.below p.below_free (work p.below typed)) e₁.1 in
     record {
-      open-layer = not-true (is-shut (row_count p.top) p.below) (refuse-unless-ok (not (is-shut (row_count p.top) p.below)) (setting-fault Shut) e₁.0);
-      unused = not-true (p.rows r).in_use (refuse-unless-ok (not (p.rows r).in_use) (setting-fault RowInUse) e₂.0);
-      held-now = e₂.1;
+      open_layer = not-true (is_shut (row_count p.top) p.below) (refuse_unless_ok (not (is_shut (row_count p.top) p.below)) (setting_fault Shut) e₁.0);
+      unused = not-true (p.rows r).in_use (refuse_unless_ok (not (p.rows r).in_use) (setting_fault RowInUse) e₂.0);
+      held_now = e₂.1;
     }
 
-pub le-says : (x b : ℤ) → le_z x b ≡ true → x ≤ℤ b
-le-says x b e = omega (arith, ints)
+pub le_says : (x b : ℤ) → le_z x b ≡ true → x ≤ℤ b
+le_says x b e = omega (arith, ints)
 
-pub now-says : (n : Net) (free : ℕ → ℕ) (w : Worked) → holds-now n free (Ok w) ≡ Ok tt → weighted-free n w.weight free ≤ℤ w.bound
-now-says n free w e = le-says (weighted-free n w.weight free) w.bound (refuse-unless-ok (le_z (weighted-free n w.weight free) w.bound) (setting-fault Broken) e)
+pub now_says : (n : Net) (free : ℕ → ℕ) (w : Worked) → holds_now n free (Ok w) ≡ Ok tt → weighted_free n w.weight free ≤ℤ w.bound
+now_says n free w e = le_says (weighted_free n w.weight free) w.bound (refuse_unless_ok (le_z (weighted_free n w.weight free) w.bound) (setting_fault Broken) e)
 
 -- a row of a board that is there
-pub open_row : (top : Top) (r : ℕ) → r < open-rows top → r < row_count top
+pub open_row : (top : Top) (r : ℕ) → r < open_rows top → r < row_count top
 open_row plant r l = l
 open_row monitor r l = absurd (omega arith)
 open_row board r l = l
 
-module _ (p : Pile) (R : Ranges p.below) (r : ℕ) (here : r < row_count p.top) (typed : Rule) (w : Worked) (ok : top-answer p r typed ≡ Ok tt) (is : work p.below typed ≡ Ok w) where
+module _ (p : Pile) (R : Ranges p.below) (r : ℕ) (here : r < row_count p.top) (typed : Rule) (w : Worked) (ok : top_answer p r typed ≡ Ok tt) (is : work p.below typed ≡ Ok w) where
   abbrev size : ℕ
   size = row_count p.top
 
@@ -81,64 +81,64 @@ module _ (p : Pile) (R : Ranges p.below) (r : ℕ) (here : r < row_count p.top) 
   n = p.below
 
   abbrev c : ℕ
-  c = row-place p r
+  c = row_place p r
 
   abbrev new : Row
-  new = ruled-row p.below p.below_free w
+  new = ruled_row p.below p.below_free w
 
   pub says : Setting p r typed
-  says = top-says p r typed ok
+  says = top_says p r typed ok
 
-  pub same-below : SameGround n (pile-net p)
-  same-below = layer-same size n p.rows R.places-all
+  pub same_below : SameGround n (pile_net p)
+  same_below = layer_same size n p.rows R.places_all
 
-  pub worked-here : work (pile-net p) typed ≡ Ok w
-  worked-here = work-on-ground n (pile-net p) same-below typed ∙ is
+  pub worked_here : work (pile_net p) typed ≡ Ok w
+  worked_here = work_on_ground n (pile_net p) same_below typed ∙ is
 
-  pub weighs : weighted-free (pile-net p) w.weight (pile-free p) ≡ weighted-free n w.weight p.below_free
-  weighs = layer-weighted size n p.rows p.below_free w.weight R.places-all
+  pub weighs : weighted_free (pile_net p) w.weight (pile_free p) ≡ weighted_free n w.weight p.below_free
+  weighs = layer_weighted size n p.rows p.below_free w.weight R.places_all
 
-  pub fits-now : weighted-free (pile-net p) w.weight (pile-free p) ≤ℤ w.bound
-  fits-now = subst (λ (x : ℤ). x ≤ℤ w.bound) (sym weighs) (now-says n p.below_free w (subst (λ (x : Result Worked Fault). holds-now n p.below_free x ≡ Ok tt) is says.held-now))
+  pub fits_now : weighted_free (pile_net p) w.weight (pile_free p) ≤ℤ w.bound
+  fits_now = subst (λ (x : ℤ). x ≤ℤ w.bound) (sym weighs) (now_says n p.below_free w (subst (λ (x : Result Worked Fault). holds_now n p.below_free x ≡ Ok tt) is says.held_now))
 
-  raises : (t : ℕ) → raise (pile-net p) w.weight t ≡ raise n w.weight t
-  raises t = same-raise n (pile-net p) same-below w.weight t
+  raises : (t : ℕ) → raise (pile_net p) w.weight t ≡ raise n w.weight t
+  raises t = same_raise n (pile_net p) same_below w.weight t
 
   -- the mask leaves the arcs of a worked rule as they are
-  take-unmasked : (t : ℕ) → masked-take n new t ≡ positive (raise (pile-net p) w.weight t)
-  take-unmasked t = go (n.controllable t) refl ∙ ap positive (sym (raises t))
+  take_unmasked : (t : ℕ) → masked_take n new t ≡ positive (raise (pile_net p) w.weight t)
+  take_unmasked t = go (n.controllable t) refl ∙ ap positive (sym (raises t))
     where
       none : (b : Bool) → ltb t n.moves ≡ b → n.controllable t ≡ false → 0 ≡ positive (raise n w.weight t)
-      none true k e = sym (positive-none (raise n w.weight t) (work-quiets n typed w is t (ltb-true t n.moves k) e))
-      none false k e = sym (ap positive (raise-none n w.weight R t (ltb-false t n.moves k)))
+      none true k e = sym (positive_none (raise n w.weight t) (work_quiets n typed w is t (ltb-true t n.moves k) e))
+      none false k e = sym (ap positive (raise_none n w.weight R t (ltb-false t n.moves k)))
 
       go : (b : Bool) → n.controllable t ≡ b → cond b (new.take t) 0 ≡ positive (raise n w.weight t)
       go true e = refl
       go false e = none (ltb t n.moves) refl e
 
-  give-unmasked : (t : ℕ) → masked-give n new t ≡ negative (raise (pile-net p) w.weight t)
-  give-unmasked t = go (ltb t n.moves) refl ∙ ap negative (sym (raises t))
+  give_unmasked : (t : ℕ) → masked_give n new t ≡ negative (raise (pile_net p) w.weight t)
+  give_unmasked t = go (ltb t n.moves) refl ∙ ap negative (sym (raises t))
     where
       go : (b : Bool) → ltb t n.moves ≡ b → cond b (new.give t) 0 ≡ negative (raise n w.weight t)
       go true e = refl
-      go false e = sym (ap negative (raise-none n w.weight R t (ltb-false t n.moves e)))
+      go false e = sym (ap negative (raise_none n w.weight R t (ltb-false t n.moves e)))
 
   -- ---- a setting is a change of one place
-  abbrev with-arcs : (ℕ → ℕ → ℕ) → (ℕ → ℕ → ℕ) → Net
-  with-arcs take give = record { ground-places = n.ground-places; places = n.places + size; moves = n.moves; controllable = n.controllable; take = take; give = give; limit = (open-net size n p.rows).limit; layer = (open-net size n p.rows).layer; row = (open-net size n p.rows).row }
+  abbrev with_arcs : (ℕ → ℕ → ℕ) → (ℕ → ℕ → ℕ) → Net
+  with_arcs take give = record { ground_places = n.ground_places; places = n.places + size; moves = n.moves; controllable = n.controllable; take = take; give = give; limit = (open_net size n p.rows).limit; layer = (open_net size n p.rows).layer; row = (open_net size n p.rows).row }
 
-  take-set : (i t : ℕ) → (open-net size n (with-rule p r w).rows).take i t ≡ cond (eqb i c) (positive (raise (pile-net p) w.weight t)) ((open-net size n p.rows).take i t)
-  take-set i t = changed_row (λ x. masked-take n x t) (n.take i t) n.places size p.rows r new i here
-      ∙ ap (λ x. cond (eqb i c) x ((open-net size n p.rows).take i t)) (take-unmasked t)
+  take_set : (i t : ℕ) → (open_net size n (with_rule p r w).rows).take i t ≡ cond (eqb i c) (positive (raise (pile_net p) w.weight t)) ((open_net size n p.rows).take i t)
+  take_set i t = changed_row (λ x. masked_take n x t) (n.take i t) n.places size p.rows r new i here
+      ∙ ap (λ x. cond (eqb i c) x ((open_net size n p.rows).take i t)) (take_unmasked t)
 
-  give-set : (i t : ℕ) → (open-net size n (with-rule p r w).rows).give i t ≡ cond (eqb i c) (negative (raise (pile-net p) w.weight t)) ((open-net size n p.rows).give i t)
-  give-set i t = changed_row (λ x. masked-give n x t) (n.give i t) n.places size p.rows r new i here
-      ∙ ap (λ x. cond (eqb i c) x ((open-net size n p.rows).give i t)) (give-unmasked t)
+  give_set : (i t : ℕ) → (open_net size n (with_rule p r w).rows).give i t ≡ cond (eqb i c) (negative (raise (pile_net p) w.weight t)) ((open_net size n p.rows).give i t)
+  give_set i t = changed_row (λ x. masked_give n x t) (n.give i t) n.places size p.rows r new i here
+      ∙ ap (λ x. cond (eqb i c) x ((open_net size n p.rows).give i t)) (give_unmasked t)
 
   -- the net k with the arcs of the rule at c, reckoned over the net m
-  abbrev set-from : Net → Net → Net
-  set-from m k = record {
-    ground-places = k.ground-places;
+  abbrev set_from : Net → Net → Net
+  set_from m k = record {
+    ground_places = k.ground_places;
     places = k.places;
     moves = k.moves;
     controllable = k.controllable;
@@ -149,36 +149,36 @@ module _ (p : Pile) (R : Ranges p.below) (r : ℕ) (here : r < row_count p.top) 
     row = k.row;
   }
 
-  pub net-set : pile-net (with-rule p r w) ≡ set-net (pile-net p) c w
-  net-set = net-opens size n (with-rule p r w).rows says.open-layer
-      ∙ ap₂ with-arcs (fun_ext (λ i. fun_ext (λ t. take-set i t))) (fun_ext (λ i. fun_ext (λ t. give-set i t)))
-      ∙ ap (set-from (pile-net p)) (sym (net-opens size n p.rows says.open-layer))
+  pub net_set : pile_net (with_rule p r w) ≡ set_net (pile_net p) c w
+  net_set = net_opens size n (with_rule p r w).rows says.open_layer
+      ∙ ap₂ with_arcs (fun_ext (λ i. fun_ext (λ t. take_set i t))) (fun_ext (λ i. fun_ext (λ t. give_set i t)))
+      ∙ ap (set_from (pile_net p)) (sym (net_opens size n p.rows says.open_layer))
 
-  pub free-set : pile-free (with-rule p r w) ≡ set_free (pile-net p) (pile-free p) c w
-  free-set = free-opens size n (with-rule p r w).rows p.below_free says.open-layer
+  pub free_set : pile_free (with_rule p r w) ≡ set_free (pile_net p) (pile_free p) c w
+  free_set = free_opens size n (with_rule p r w).rows p.below_free says.open_layer
       ∙ fun_ext (λ i. changed_row (λ x. x.free) (p.below_free i) n.places size p.rows r new i here
-      ∙ ap₂ (λ x y. cond (eqb i c) (positive (w.bound -ℤ x)) y) (sym weighs) (ap (λ f. f i) (sym (free-opens size n p.rows p.below_free says.open-layer))))
+      ∙ ap₂ (λ x y. cond (eqb i c) (positive (w.bound -ℤ x)) y) (sym weighs) (ap (λ f. f i) (sym (free_opens size n p.rows p.below_free says.open_layer))))
 
   -- ---- the invariant
-  module _ (g : ℕ → ℕ) (q : ℕ → ℤ) (rs : List InForce) (s : Steady (pile-net p) (pile-free p) g q rs) (h : Shape p rs) where
-    spot : ((pile-net p).ground-places ≤ n.places) × (c < (pile-net p).places)
-    spot = h.there r here says.open-layer
+  module _ (g : ℕ → ℕ) (q : ℕ → ℤ) (rs : List InForce) (s : Steady (pile_net p) (pile_free p) g q rs) (h : Shape p rs) where
+    spot : ((pile_net p).ground_places ≤ n.places) × (c < (pile_net p).places)
+    spot = h.there r here says.open_layer
 
-    pub set-low : (pile-net p).ground-places ≤ c
-    set-low = up (pile-net p).ground-places n.places r spot.0
+    pub set_low : (pile_net p).ground_places ≤ c
+    set_low = up (pile_net p).ground_places n.places r spot.0
       where
         up : (a b c : ℕ) → a ≤ b → a ≤ b + c
         up a b c h = omega arith
 
-    pub set-steady : ((t : ℕ) → g t ≡ 0) → Steady (pile-net (with-rule p r w)) (pile-free (with-rule p r w)) g q (in-force p r typed w ∷ rs)
-    set-steady z = subst (λ (m : Net). Steady m (pile-free (with-rule p r w)) g q (in-force p r typed w ∷ rs)) (sym net-set)
-        (subst (λ (f : ℕ → ℕ). Steady (set-net (pile-net p) c w) f g q (in-force p r typed w ∷ rs)) (sym free-set)
-        (placed (pile-net p) (pile-free p) g q rs s z c typed w set-low spot.1 (λ i m. fresh-place p r i says.unused (h.settled i m))
-        worked-here fits-now))
+    pub set_steady : ((t : ℕ) → g t ≡ 0) → Steady (pile_net (with_rule p r w)) (pile_free (with_rule p r w)) g q (in_force p r typed w ∷ rs)
+    set_steady z = subst (λ (m : Net). Steady m (pile_free (with_rule p r w)) g q (in_force p r typed w ∷ rs)) (sym net_set)
+        (subst (λ (f : ℕ → ℕ). Steady (set_net (pile_net p) c w) f g q (in_force p r typed w ∷ rs)) (sym free_set)
+        (placed (pile_net p) (pile_free p) g q rs s z c typed w set_low spot.1 (λ i m. fresh_place p r i says.unused (h.settled i m))
+        worked_here fits_now))
 
-    pub set-shape : Shape (with-rule p r w) (in-force p r typed w ∷ rs)
-    set-shape = record {
+    pub set_shape : Shape (with_rule p r w) (in_force p r typed w ∷ rs)
+    set_shape = record {
       based = h.based;
-      there = λ k l e. subst (λ (m : Net). (m.ground-places ≤ n.places) × (row-place p k < m.places)) (sym net-set) (h.there k l e);
-      settled = λ i m. settled-new p r typed w rs h i (Memᴰ.cases_cons m);
+      there = λ k l e. subst (λ (m : Net). (m.ground_places ≤ n.places) × (row_place p k < m.places)) (sym net_set) (h.there k l e);
+      settled = λ i m. settled_new p r typed w rs h i (Memᴰ.cases_cons m);
     }

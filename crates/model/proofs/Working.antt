@@ -4,33 +4,33 @@ use lib.Signed.{lt_z}
 use borrow.Author.Differences.{ints, same_in, product_is}
 use Rattle.model.specs.declared.refusal.Refusal.TheVariants.{NotTyped, NotAbsorbed, TooLarge, TooManyRounds}
 use Rattle.model.specs.declared.fault.Fault.{Fault}
-use Rattle.model.specs.Sizes.{most-all-places, most-weight, most-bound, most-worked-weight, most-worked-bound, most-rounds}
-use Rattle.model.specs.Net.{Net, signed-sum, incidence}
-use Rattle.model.specs.Plant.{lowest, setting-fault}
-use Rattle.model.specs.Rule.{Rule, Worked, raise, positive, all-below, in-range}
-use Rattle.model.specs.Working.{divisor, rising, falls, absorbed, changed, fits, at_place, at-move, at-end, rounds-from, ground-only, is-typed, unchanged, work}
+use Rattle.model.specs.Sizes.{most_all_places, most_weight, most_bound, most_worked_weight, most_worked_bound, most_rounds}
+use Rattle.model.specs.Net.{Net, signed_sum, incidence}
+use Rattle.model.specs.Plant.{lowest, setting_fault}
+use Rattle.model.specs.Rule.{Rule, Worked, raise, positive, all_below, in_range}
+use Rattle.model.specs.Working.{divisor, rising, falls, absorbed, changed, fits, at_place, at_move, at_end, rounds_from, ground_only, is_typed, unchanged, work}
 use Rattle.model.specs.Laws.{Derived, SameGround}
-use Rattle.model.proofs.Sums.{distrib, signed-sum-ext}
-use Rattle.model.proofs.Checks.{lowest-some, lowest-none, lowest-ext}
+use Rattle.model.proofs.Sums.{distrib, signed_sum_ext}
+use Rattle.model.proofs.Checks.{lowest_some, lowest_none, lowest_ext}
 
 -- ---- tests
-pub and-true : (a b : Bool) → a && b ≡ true → (a ≡ true) × (b ≡ true)
-and-true true b e = (refl, e)
-and-true false b e = absurd (subst T (sym e) tt)
+pub and_true : (a b : Bool) → a && b ≡ true → (a ≡ true) × (b ≡ true)
+and_true true b e = (refl, e)
+and_true false b e = absurd (subst T (sym e) tt)
 
-below-go : (f : ℕ → Bool) (k i : ℕ) → f k ≡ true → (i < k → f i ≡ true) → i < suc k → (b : Bool) → ltb i k ≡ b → f i ≡ true
-below-go f k i e r l true t = r (ltb-true i k t)
-below-go f k i e r l false t = let q : k ≡ i = omega (arith, ltb-false i k t) in subst (λ (x : ℕ). f x ≡ true) q e
+below_go : (f : ℕ → Bool) (k i : ℕ) → f k ≡ true → (i < k → f i ≡ true) → i < suc k → (b : Bool) → ltb i k ≡ b → f i ≡ true
+below_go f k i e r l true t = r (ltb-true i k t)
+below_go f k i e r l false t = let q : k ≡ i = omega (arith, ltb-false i k t) in subst (λ (x : ℕ). f x ≡ true) q e
 
-pub all-below-says : (f : ℕ → Bool) (k : ℕ) → all-below f k ≡ true → (i : ℕ) → i < k → f i ≡ true
-all-below-says f zero e i l = absurd (omega arith)
-all-below-says f (suc k) e i l = below-go f k i (and-true (all-below f k) (f k) e).1 (λ m. all-below-says f k (and-true (all-below f k) (f k) e).0 i m) l (ltb i k) refl
+pub all_below_says : (f : ℕ → Bool) (k : ℕ) → all_below f k ≡ true → (i : ℕ) → i < k → f i ≡ true
+all_below_says f zero e i l = absurd (omega arith)
+all_below_says f (suc k) e i l = below_go f k i (and_true (all_below f k) (f k) e).1 (λ m. all_below_says f k (and_true (all_below f k) (f k) e).0 i m) l (ltb i k) refl
 
-pub range-weights : (w b : ℕ) (n : Net) (l : ℕ → ℤ) (x : ℤ) → in-range w b n l x ≡ true → (p : ℕ) → p < n.ground-places → nat_abs (l p) ≤ w
-range-weights w b n l x e p k = leb-true (nat_abs (l p)) w (all-below-says (λ i. leb (nat_abs (l i)) w) n.ground-places (and-true (all-below (λ i. leb (nat_abs (l i)) w) n.ground-places) (leb (nat_abs x) b) e).0 p k)
+pub range_weights : (w b : ℕ) (n : Net) (l : ℕ → ℤ) (x : ℤ) → in_range w b n l x ≡ true → (p : ℕ) → p < n.ground_places → nat_abs (l p) ≤ w
+range_weights w b n l x e p k = leb-true (nat_abs (l p)) w (all_below_says (λ i. leb (nat_abs (l i)) w) n.ground_places (and_true (all_below (λ i. leb (nat_abs (l i)) w) n.ground_places) (leb (nat_abs x) b) e).0 p k)
 
-pub range-bound : (w b : ℕ) (n : Net) (l : ℕ → ℤ) (x : ℤ) → in-range w b n l x ≡ true → nat_abs x ≤ b
-range-bound w b n l x e = leb-true (nat_abs x) b (and-true (all-below (λ i. leb (nat_abs (l i)) w) n.ground-places) (leb (nat_abs x) b) e).1
+pub range_bound : (w b : ℕ) (n : Net) (l : ℕ → ℤ) (x : ℤ) → in_range w b n l x ≡ true → nat_abs x ≤ b
+range_bound w b n l x e = leb-true (nat_abs x) b (and_true (all_below (λ i. leb (nat_abs (l i)) w) n.ground_places) (leb (nat_abs x) b) e).1
 
 divisor_range : (k a e : ℕ) → (1 ≤ divisor k a e) × (divisor k a e ≤ max 1 k)
 divisor_range zero a e = omega arith
@@ -40,8 +40,8 @@ divisor_range (suc k) a e = go (eqb (a % suc k) 0 && eqb (e % suc k) 0) (divisor
     go true h = omega arith
     go false h = omega arith
 
-times-some : (a e : ℕ) → 1 ≤ e → 1 ≤ e / divisor e a e
-times-some a e l =
+times_some : (a e : ℕ) → 1 ≤ e → 1 ≤ e / divisor e a e
+times_some a e l =
     let h = divisor_range e a e in
     (le-div_iff_mul-le {k = divisor e a e} {x = 1} {y = e} h.0).1 (small (divisor e a e) e h.1 l)
   where
@@ -49,12 +49,12 @@ times-some a e l =
     small d e h l = omega arith
 
 -- ---- one round
-twice-times : (k f : ℕ) (l : ℤ) → pos k *ℤ (pos f *ℤ l) ≡ pos (k * f) *ℤ l
-twice-times k f l = same_in (pos k *ℤ (pos f *ℤ l)) (pos (k * f) *ℤ l)
+twice_times : (k f : ℕ) (l : ℤ) → pos k *ℤ (pos f *ℤ l) ≡ pos (k * f) *ℤ l
+twice_times k f l = same_in (pos k *ℤ (pos f *ℤ l)) (pos (k * f) *ℤ l)
     (omega (arith, product_is (pos k) (pos f *ℤ l), product_is (pos f) l, product_is (pos (k * f)) l, ap (λ x. k * x) (product_is (pos f) l).0, ap (λ x. k * x) (product_is (pos f) l).1))
 
-swap-last : (a b c : ℤ) → (a +ℤ b) +ℤ c ≡ (a +ℤ c) +ℤ b
-swap-last a b c = omega (arith, ints)
+swap_last : (a b c : ℤ) → (a +ℤ b) +ℤ c ≡ (a +ℤ c) +ℤ b
+swap_last a b c = omega (arith, ints)
 
 back_one : (b x : ℤ) → b ≡ x -ℤ pos 1 → b +ℤ pos 1 ≡ x
 back_one b x e = omega (arith, ints)
@@ -68,19 +68,19 @@ at_low : (b : Bool) (x : ℕ) → pos 0 ≤ℤ cond b (pos x) (pos 0)
 at_low true x = omega (arith, ints)
 at_low false x = omega (arith, ints)
 
-round-derived : (n : Net) (typed : Rule) (r : Worked) (p h a e : ℕ) → Derived n.ground-places typed r → p < n.ground-places → 1 ≤ e / h → fits n (absorbed r p h a e) ≡ true → Derived n.ground-places typed (absorbed r p h a e)
-round-derived n typed r p h a e s l some ok = record {
-  weights-in = range-weights most-worked-weight most-worked-bound n (absorbed r p h a e).weight (absorbed r p h a e).bound ok;
-  weights-out = λ off i k. out i (ne_eqb i p (λ q. omega arith)) (s.weights-out off i k);
-  bound-in = range-bound most-worked-weight most-worked-bound n (absorbed r p h a e).weight (absorbed r p h a e).bound ok;
-  typed-weights-in = s.typed-weights-in;
-  typed-bound-in = s.typed-bound-in;
+round_derived : (n : Net) (typed : Rule) (r : Worked) (p h a e : ℕ) → Derived n.ground_places typed r → p < n.ground_places → 1 ≤ e / h → fits n (absorbed r p h a e) ≡ true → Derived n.ground_places typed (absorbed r p h a e)
+round_derived n typed r p h a e s l some ok = record {
+  weights_in = range_weights most_worked_weight most_worked_bound n (absorbed r p h a e).weight (absorbed r p h a e).bound ok;
+  weights_out = λ off i k. out i (ne_eqb i p (λ q. omega arith)) (s.weights_out off i k);
+  bound_in = range_bound most_worked_weight most_worked_bound n (absorbed r p h a e).weight (absorbed r p h a e).bound ok;
+  typed_weights_in = s.typed_weights_in;
+  typed_bound_in = s.typed_bound_in;
   factor = (e / h) * s.factor;
-  factor-some = mul-le-mul some s.factor-some;
+  factor_some = mul-le-mul some s.factor_some;
   rest = λ i. pos (e / h) *ℤ s.rest i +ℤ cond (eqb i p) (pos (a / h)) (pos 0);
-  rest-low = λ i k. low_sum (e / h) (s.rest i) (cond (eqb i p) (pos (a / h)) (pos 0)) (s.rest-low i k) (at_low (eqb i p) (a / h));
+  rest_low = λ i k. low_sum (e / h) (s.rest i) (cond (eqb i p) (pos (a / h)) (pos 0)) (s.rest_low i k) (at_low (eqb i p) (a / h));
   blend = λ i k. mix (e / h) s.factor (r.weight i) (s.rest i) (typed.weight i) (cond (eqb i p) (pos (a / h)) (pos 0)) (s.blend i k);
-  blend-bound = ap (λ x. pos (e / h) *ℤ x -ℤ pos 1) (back_one r.bound (pos s.factor *ℤ (typed.bound +ℤ pos 1)) s.blend-bound) ∙ ap (λ x. x -ℤ pos 1) (twice-times (e / h) s.factor (typed.bound +ℤ pos 1));
+  blend_bound = ap (λ x. pos (e / h) *ℤ x -ℤ pos 1) (back_one r.bound (pos s.factor *ℤ (typed.bound +ℤ pos 1)) s.blend_bound) ∙ ap (λ x. x -ℤ pos 1) (twice_times (e / h) s.factor (typed.bound +ℤ pos 1));
 }
   where
     out : (i : ℕ) → eqb i p ≡ false → r.weight i ≡ pos 0 → pos (e / h) *ℤ r.weight i +ℤ cond (eqb i p) (pos (a / h)) (pos 0) ≡ pos 0
@@ -90,11 +90,11 @@ round-derived n typed r p h a e s l some ok = record {
         nil k = omega (arith, ints)
 
     mix : (k f : ℕ) (w r l c : ℤ) → w ≡ r +ℤ pos f *ℤ l → pos k *ℤ w +ℤ c ≡ (pos k *ℤ r +ℤ c) +ℤ pos (k * f) *ℤ l
-    mix k f w r l c q = ap (λ x. pos k *ℤ x +ℤ c) q ∙ ap (λ x. x +ℤ c) (distrib (pos k) r (pos f *ℤ l) ∙ ap (λ x. pos k *ℤ r +ℤ x) (twice-times k f l)) ∙ swap-last (pos k *ℤ r) (pos (k * f) *ℤ l) c
+    mix k f w r l c q = ap (λ x. pos k *ℤ x +ℤ c) q ∙ ap (λ x. x +ℤ c) (distrib (pos k) r (pos f *ℤ l) ∙ ap (λ x. pos k *ℤ r +ℤ x) (twice_times k f l)) ∙ swap_last (pos k *ℤ r) (pos (k * f) *ℤ l) c
 
--- ---- all rounds-from
+-- ---- all rounds_from
 record Done (n : Net) (typed : Rule) (w : Worked) : Type 0 where
-  derived : Derived n.ground-places typed w
+  derived : Derived n.ground_places typed w
   still : (t : ℕ) → t < n.moves → rising n w t ≡ false
 
 bad : (f : Fault) (w : Worked) → ◌≡◌ {A = Result Worked Fault} (Err f) (Ok w) → ⊥
@@ -103,60 +103,60 @@ bad f w e = let z : ◌≡◌ {A = ℕ} 0 1 = cc in omega arith
 same_ok : (r w : Worked) → ◌≡◌ {A = Result Worked Fault} (Ok r) (Ok w) → r ≡ w
 same_ok r w e = cc
 
-cond-ok : (b : Bool) (x : Result Worked Fault) (f : Fault) (w : Worked) → cond b x (Err f) ≡ Ok w → (b ≡ true) × (x ≡ Ok w)
-cond-ok true x f w e = (refl, e)
-cond-ok false x f w e = absurd (bad f w e)
+cond_ok : (b : Bool) (x : Result Worked Fault) (f : Fault) (w : Worked) → cond b x (Err f) ≡ Ok w → (b ≡ true) × (x ≡ Ok w)
+cond_ok true x f w e = (refl, e)
+cond_ok false x f w e = absurd (bad f w e)
 
-done-here : (n : Net) (typed : Rule) (r w : Worked) → Derived n.ground-places typed r → lowest (rising n r) 0 n.moves ≡ None → r ≡ w → Done n typed w
-done-here n typed r w s none e = subst (λ (x : Worked). Done n typed x) e (record { derived = s; still = lowest-none (rising n r) n.moves none })
+done_here : (n : Net) (typed : Rule) (r w : Worked) → Derived n.ground_places typed r → lowest (rising n r) 0 n.moves ≡ None → r ≡ w → Done n typed w
+done_here n typed r w s none e = subst (λ (x : Worked). Done n typed x) e (record { derived = s; still = lowest_none (rising n r) n.moves none })
 
-place-done : (n : Net) (typed : Rule) (r w : Worked) (on : Worked → Result Worked Fault) → ((r : Worked) → Derived n.ground-places typed r → on r ≡ Ok w → Done n typed w) → Derived n.ground-places typed r →
-    (t : ℕ) (o : Option ℕ) → lowest (falls n t) 0 n.ground-places ≡ o → at_place on n r t o ≡ Ok w → Done n typed w
-place-done n typed r w on rec s t None q e = absurd (bad (setting-fault NotAbsorbed) w e)
-place-done n typed r w on rec s t (Some p) q e =
-    let f = lowest-some (falls n t) n.ground-places p q in
-    let c = cond-ok (fits n (changed n r t p)) (on (changed n r t p)) (setting-fault TooLarge) w e in
+place_done : (n : Net) (typed : Rule) (r w : Worked) (on : Worked → Result Worked Fault) → ((r : Worked) → Derived n.ground_places typed r → on r ≡ Ok w → Done n typed w) → Derived n.ground_places typed r →
+    (t : ℕ) (o : Option ℕ) → lowest (falls n t) 0 n.ground_places ≡ o → at_place on n r t o ≡ Ok w → Done n typed w
+place_done n typed r w on rec s t None q e = absurd (bad (setting_fault NotAbsorbed) w e)
+place_done n typed r w on rec s t (Some p) q e =
+    let f = lowest_some (falls n t) n.ground_places p q in
+    let c = cond_ok (fits n (changed n r t p)) (on (changed n r t p)) (setting_fault TooLarge) w e in
     rec (changed n r t p)
-    (round-derived n typed r p (divisor (n.take p t - n.give p t) (positive (raise n r.weight t)) (n.take p t - n.give p t)) (positive (raise n r.weight t)) (n.take p t - n.give p t)
-    s f.1 (times-some (positive (raise n r.weight t)) (n.take p t - n.give p t) (more (n.give p t) (n.take p t) f.0)) c.0)
+    (round_derived n typed r p (divisor (n.take p t - n.give p t) (positive (raise n r.weight t)) (n.take p t - n.give p t)) (positive (raise n r.weight t)) (n.take p t - n.give p t)
+    s f.1 (times_some (positive (raise n r.weight t)) (n.take p t - n.give p t) (more (n.give p t) (n.take p t) f.0)) c.0)
     c.1
   where
     more : (a b : ℕ) → ltb a b ≡ true → 1 ≤ b - a
     more a b e = omega (arith, ltb-true a b e)
 
-move-done : (n : Net) (typed : Rule) (r w : Worked) (on : Worked → Result Worked Fault) → ((r : Worked) → Derived n.ground-places typed r → on r ≡ Ok w → Done n typed w) → Derived n.ground-places typed r →
-    (o : Option ℕ) → lowest (rising n r) 0 n.moves ≡ o → at-move on n r o ≡ Ok w → Done n typed w
-move-done n typed r w on rec s None q e = done-here n typed r w s q (same_ok r w e)
-move-done n typed r w on rec s (Some t) q e = place-done n typed r w on rec s t (lowest (falls n t) 0 n.ground-places) refl e
+move_done : (n : Net) (typed : Rule) (r w : Worked) (on : Worked → Result Worked Fault) → ((r : Worked) → Derived n.ground_places typed r → on r ≡ Ok w → Done n typed w) → Derived n.ground_places typed r →
+    (o : Option ℕ) → lowest (rising n r) 0 n.moves ≡ o → at_move on n r o ≡ Ok w → Done n typed w
+move_done n typed r w on rec s None q e = done_here n typed r w s q (same_ok r w e)
+move_done n typed r w on rec s (Some t) q e = place_done n typed r w on rec s t (lowest (falls n t) 0 n.ground_places) refl e
 
-end-done : (n : Net) (typed : Rule) (r w : Worked) → Derived n.ground-places typed r → (o : Option ℕ) → lowest (rising n r) 0 n.moves ≡ o → at-end r o ≡ Ok w → Done n typed w
-end-done n typed r w s None q e = done-here n typed r w s q (same_ok r w e)
-end-done n typed r w s (Some t) q e = absurd (bad (setting-fault TooManyRounds) w e)
+end_done : (n : Net) (typed : Rule) (r w : Worked) → Derived n.ground_places typed r → (o : Option ℕ) → lowest (rising n r) 0 n.moves ≡ o → at_end r o ≡ Ok w → Done n typed w
+end_done n typed r w s None q e = done_here n typed r w s q (same_ok r w e)
+end_done n typed r w s (Some t) q e = absurd (bad (setting_fault TooManyRounds) w e)
 
-rounds-done : (k : ℕ) (n : Net) (typed : Rule) (w r : Worked) → Derived n.ground-places typed r → rounds-from k n r ≡ Ok w → Done n typed w
-unfolding rounds-from
-rounds-done zero n typed w r s e = end-done n typed r w s (lowest (rising n r) 0 n.moves) refl e
-rounds-done (suc k) n typed w r s e = move-done n typed r w (rounds-from k n) (λ x. rounds-done k n typed w x) s (lowest (rising n r) 0 n.moves) refl e
+rounds_done : (k : ℕ) (n : Net) (typed : Rule) (w r : Worked) → Derived n.ground_places typed r → rounds_from k n r ≡ Ok w → Done n typed w
+unfolding rounds_from
+rounds_done zero n typed w r s e = end_done n typed r w s (lowest (rising n r) 0 n.moves) refl e
+rounds_done (suc k) n typed w r s e = move_done n typed r w (rounds_from k n) (λ x. rounds_done k n typed w x) s (lowest (rising n r) 0 n.moves) refl e
 
-typed-derived : (n : Net) (r : Rule) → in-range most-weight most-bound n r.weight r.bound ≡ true → Derived n.ground-places r (unchanged r)
-typed-derived n r e = record {
-  weights-in = λ p l. wide (nat_abs (r.weight p)) (range-weights most-weight most-bound n r.weight r.bound e p l);
-  weights-out = λ off. off;
-  bound-in = far (nat_abs r.bound) (range-bound most-weight most-bound n r.weight r.bound e);
-  typed-weights-in = range-weights most-weight most-bound n r.weight r.bound e;
-  typed-bound-in = range-bound most-weight most-bound n r.weight r.bound e;
+typed_derived : (n : Net) (r : Rule) → in_range most_weight most_bound n r.weight r.bound ≡ true → Derived n.ground_places r (unchanged r)
+typed_derived n r e = record {
+  weights_in = λ p l. wide (nat_abs (r.weight p)) (range_weights most_weight most_bound n r.weight r.bound e p l);
+  weights_out = λ off. off;
+  bound_in = far (nat_abs r.bound) (range_bound most_weight most_bound n r.weight r.bound e);
+  typed_weights_in = range_weights most_weight most_bound n r.weight r.bound e;
+  typed_bound_in = range_bound most_weight most_bound n r.weight r.bound e;
   factor = 1;
-  factor-some = omega arith;
+  factor_some = omega arith;
   rest = λ p. pos 0;
-  rest-low = λ p l. omega (arith, ints);
+  rest_low = λ p l. omega (arith, ints);
   blend = λ p l. plain (r.weight p);
-  blend-bound = whole r.bound;
+  blend_bound = whole r.bound;
 }
   where
-    wide : (a : ℕ) → a ≤ most-weight → a ≤ most-worked-weight
+    wide : (a : ℕ) → a ≤ most_weight → a ≤ most_worked_weight
     wide a h = omega arith
 
-    far : (a : ℕ) → a ≤ most-bound → a ≤ most-worked-bound
+    far : (a : ℕ) → a ≤ most_bound → a ≤ most_worked_bound
     far a h = omega arith
 
     plain : (x : ℤ) → x ≡ pos 0 +ℤ pos 1 *ℤ x
@@ -165,63 +165,63 @@ typed-derived n r e = record {
     whole : (x : ℤ) → x ≡ pos 1 *ℤ (x +ℤ pos 1) -ℤ pos 1
     whole x = omega (arith, ints)
 
-work-done : (n : Net) (typed : Rule) (w : Worked) → work n typed ≡ Ok w → Done n typed w
-work-done n typed w e =
-    let c = cond-ok (is-typed n typed) (rounds-from most-rounds n (unchanged typed)) (setting-fault NotTyped) w e in
-    rounds-done most-rounds n typed w (unchanged typed) (typed-derived n typed (and-true (in-range most-weight most-bound n typed.weight typed.bound) (ground-only n typed) c.0).0) c.1
+work_done : (n : Net) (typed : Rule) (w : Worked) → work n typed ≡ Ok w → Done n typed w
+work_done n typed w e =
+    let c = cond_ok (is_typed n typed) (rounds_from most_rounds n (unchanged typed)) (setting_fault NotTyped) w e in
+    rounds_done most_rounds n typed w (unchanged typed) (typed_derived n typed (and_true (in_range most_weight most_bound n typed.weight typed.bound) (ground_only n typed) c.0).0) c.1
 
-not-rising : (b : Bool) (z : ℤ) → b ≡ false → not b && lt_z (pos 0) z ≡ false → z ≤ℤ pos 0
-not-rising true z e k = absurd (subst T e tt)
-not-rising false z e k = omega (arith, ints)
+not_rising : (b : Bool) (z : ℤ) → b ≡ false → not b && lt_z (pos 0) z ≡ false → z ≤ℤ pos 0
+not_rising true z e k = absurd (subst T e tt)
+not_rising false z e k = omega (arith, ints)
 
 -- ---- the ground alone is looked at
 module _ (n m : Net) (s : SameGround n m) where
-  pub same-change : (p t : ℕ) → p < n.ground-places → incidence m p t ≡ incidence n p t
-  same-change p t l = ap₂ (λ a b. pos a -ℤ pos b) (s.same-give p t l) (s.same-take p t l)
+  pub same_change : (p t : ℕ) → p < n.ground_places → incidence m p t ≡ incidence n p t
+  same_change p t l = ap₂ (λ a b. pos a -ℤ pos b) (s.same_give p t l) (s.same_take p t l)
 
-  pub same-raise : (l : ℕ → ℤ) (t : ℕ) → raise m l t ≡ raise n l t
-  same-raise l t = ap (λ g. signed-sum g (λ p. l p *ℤ incidence m p t)) s.same-ground ∙ signed-sum-ext n.ground-places (λ p. l p *ℤ incidence m p t) (λ p. l p *ℤ incidence n p t) (λ p h. ap (λ x. l p *ℤ x) (same-change p t h))
+  pub same_raise : (l : ℕ → ℤ) (t : ℕ) → raise m l t ≡ raise n l t
+  same_raise l t = ap (λ g. signed_sum g (λ p. l p *ℤ incidence m p t)) s.same_ground ∙ signed_sum_ext n.ground_places (λ p. l p *ℤ incidence m p t) (λ p. l p *ℤ incidence n p t) (λ p h. ap (λ x. l p *ℤ x) (same_change p t h))
 
-  same-rising : (r : Worked) (t : ℕ) → rising m r t ≡ rising n r t
-  same-rising r t = ap₂ (λ b z. not b && lt_z (pos 0) z) (s.same-controllable t) (same-raise r.weight t)
+  same_rising : (r : Worked) (t : ℕ) → rising m r t ≡ rising n r t
+  same_rising r t = ap₂ (λ b z. not b && lt_z (pos 0) z) (s.same_controllable t) (same_raise r.weight t)
 
-  same-moving : (r : Worked) → lowest (rising m r) 0 m.moves ≡ lowest (rising n r) 0 n.moves
-  same-moving r = ap (λ k. lowest (rising m r) 0 k) s.same-moves ∙ lowest-ext (rising m r) (rising n r) 0 n.moves (λ t a b. same-rising r t)
+  same_moving : (r : Worked) → lowest (rising m r) 0 m.moves ≡ lowest (rising n r) 0 n.moves
+  same_moving r = ap (λ k. lowest (rising m r) 0 k) s.same_moves ∙ lowest_ext (rising m r) (rising n r) 0 n.moves (λ t a b. same_rising r t)
 
-  same-placing : (t : ℕ) → lowest (falls m t) 0 m.ground-places ≡ lowest (falls n t) 0 n.ground-places
-  same-placing t = ap (λ k. lowest (falls m t) 0 k) s.same-ground
-      ∙ lowest-ext (falls m t) (falls n t) 0 n.ground-places (λ p a b. ap₂ (λ x y. ltb x y) (s.same-give p t (in-it p b)) (s.same-take p t (in-it p b)))
+  same_placing : (t : ℕ) → lowest (falls m t) 0 m.ground_places ≡ lowest (falls n t) 0 n.ground_places
+  same_placing t = ap (λ k. lowest (falls m t) 0 k) s.same_ground
+      ∙ lowest_ext (falls m t) (falls n t) 0 n.ground_places (λ p a b. ap₂ (λ x y. ltb x y) (s.same_give p t (in_it p b)) (s.same_take p t (in_it p b)))
     where
-      in-it : (p : ℕ) → p < 0 + n.ground-places → p < n.ground-places
-      in-it p h = omega arith
+      in_it : (p : ℕ) → p < 0 + n.ground_places → p < n.ground_places
+      in_it p h = omega arith
 
-  same-range : (w b : ℕ) (l : ℕ → ℤ) (x : ℤ) → in-range w b m l x ≡ in-range w b n l x
-  same-range w b l x = ap (λ g. all-below (λ p. leb (nat_abs (l p)) w) g && leb (nat_abs x) b) s.same-ground
+  same_range : (w b : ℕ) (l : ℕ → ℤ) (x : ℤ) → in_range w b m l x ≡ in_range w b n l x
+  same_range w b l x = ap (λ g. all_below (λ p. leb (nat_abs (l p)) w) g && leb (nat_abs x) b) s.same_ground
 
-  same-changed : (r : Worked) (t p : ℕ) → p < n.ground-places → changed m r t p ≡ changed n r t p
-  same-changed r t p l = ap₂ (λ a e. absorbed r p (divisor e (positive a) e) (positive a) e) (same-raise r.weight t) (ap₂ (λ x y. x - y) (s.same-take p t l) (s.same-give p t l))
+  same_changed : (r : Worked) (t p : ℕ) → p < n.ground_places → changed m r t p ≡ changed n r t p
+  same_changed r t p l = ap₂ (λ a e. absorbed r p (divisor e (positive a) e) (positive a) e) (same_raise r.weight t) (ap₂ (λ x y. x - y) (s.same_take p t l) (s.same_give p t l))
 
-  same-at-place : (on on' : Worked → Result Worked Fault) → ((r : Worked) → on r ≡ on' r) → (r : Worked) (t : ℕ) (o : Option ℕ) → lowest (falls n t) 0 n.ground-places ≡ o → at_place on m r t o ≡ at_place on' n r t o
-  same-at-place on on' h r t None q = refl
-  same-at-place on on' h r t (Some p) q =
-      let e : changed m r t p ≡ changed n r t p = same-changed r t p (lowest-some (falls n t) n.ground-places p q).1 in
-      ap (λ x. cond (fits m x) (on x) (Err (setting-fault TooLarge))) e
-      ∙ ap₂ (λ b x. cond b x (Err (setting-fault TooLarge))) (same-range most-worked-weight most-worked-bound (changed n r t p).weight (changed n r t p).bound) (h (changed n r t p))
+  same_at_place : (on on' : Worked → Result Worked Fault) → ((r : Worked) → on r ≡ on' r) → (r : Worked) (t : ℕ) (o : Option ℕ) → lowest (falls n t) 0 n.ground_places ≡ o → at_place on m r t o ≡ at_place on' n r t o
+  same_at_place on on' h r t None q = refl
+  same_at_place on on' h r t (Some p) q =
+      let e : changed m r t p ≡ changed n r t p = same_changed r t p (lowest_some (falls n t) n.ground_places p q).1 in
+      ap (λ x. cond (fits m x) (on x) (Err (setting_fault TooLarge))) e
+      ∙ ap₂ (λ b x. cond b x (Err (setting_fault TooLarge))) (same_range most_worked_weight most_worked_bound (changed n r t p).weight (changed n r t p).bound) (h (changed n r t p))
 
-  same-at-move : (on on' : Worked → Result Worked Fault) → ((r : Worked) → on r ≡ on' r) → (r : Worked) (o : Option ℕ) → at-move on m r o ≡ at-move on' n r o
-  same-at-move on on' h r None = refl
-  same-at-move on on' h r (Some t) = ap (at_place on m r t) (same-placing t) ∙ same-at-place on on' h r t (lowest (falls n t) 0 n.ground-places) refl
+  same_at_move : (on on' : Worked → Result Worked Fault) → ((r : Worked) → on r ≡ on' r) → (r : Worked) (o : Option ℕ) → at_move on m r o ≡ at_move on' n r o
+  same_at_move on on' h r None = refl
+  same_at_move on on' h r (Some t) = ap (at_place on m r t) (same_placing t) ∙ same_at_place on on' h r t (lowest (falls n t) 0 n.ground_places) refl
 
-  same-rounds : (k : ℕ) (r : Worked) → rounds-from k m r ≡ rounds-from k n r
-  unfolding rounds-from
-  same-rounds zero r = ap (at-end r) (same-moving r)
-  same-rounds (suc k) r = ap (at-move (rounds-from k m) m r) (same-moving r) ∙ same-at-move (rounds-from k m) (rounds-from k n) (λ x. same-rounds k x) r (lowest (rising n r) 0 n.moves)
+  same_rounds : (k : ℕ) (r : Worked) → rounds_from k m r ≡ rounds_from k n r
+  unfolding rounds_from
+  same_rounds zero r = ap (at_end r) (same_moving r)
+  same_rounds (suc k) r = ap (at_move (rounds_from k m) m r) (same_moving r) ∙ same_at_move (rounds_from k m) (rounds_from k n) (λ x. same_rounds k x) r (lowest (rising n r) 0 n.moves)
 
-  pub work-on-ground : (r : Rule) → work m r ≡ work n r
-  work-on-ground r = ap₂ (λ b x. cond b x (Err (setting-fault NotTyped))) (ap₂ (λ a b. a && b) (same-range most-weight most-bound r.weight r.bound) (ap (λ g. all-below (λ p. ltb p g || eqb (nat_abs (r.weight p)) 0) most-all-places) s.same-ground)) (same-rounds most-rounds (unchanged r))
+  pub work_on_ground : (r : Rule) → work m r ≡ work n r
+  work_on_ground r = ap₂ (λ b x. cond b x (Err (setting_fault NotTyped))) (ap₂ (λ a b. a && b) (same_range most_weight most_bound r.weight r.bound) (ap (λ g. all_below (λ p. ltb p g || eqb (nat_abs (r.weight p)) 0) most_all_places) s.same_ground)) (same_rounds most_rounds (unchanged r))
 
-pub work-derives : (n : Net) (typed : Rule) (w : Worked) → work n typed ≡ Ok w → Derived n.ground-places typed w
-work-derives n typed w e = (work-done n typed w e).derived
+pub work_derives : (n : Net) (typed : Rule) (w : Worked) → work n typed ≡ Ok w → Derived n.ground_places typed w
+work_derives n typed w e = (work_done n typed w e).derived
 
-pub work-quiets : (n : Net) (typed : Rule) (w : Worked) → work n typed ≡ Ok w → (t : ℕ) → t < n.moves → n.controllable t ≡ false → raise n w.weight t ≤ℤ pos 0
-work-quiets n typed w e t l u = not-rising (n.controllable t) (raise n w.weight t) u ((work-done n typed w e).still t l)
+pub work_quiets : (n : Net) (typed : Rule) (w : Worked) → work n typed ≡ Ok w → (t : ℕ) → t < n.moves → n.controllable t ≡ false → raise n w.weight t ≤ℤ pos 0
+work_quiets n typed w e t l u = not_rising (n.controllable t) (raise n w.weight t) u ((work_done n typed w e).still t l)

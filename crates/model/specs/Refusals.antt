@@ -1,61 +1,61 @@
 -- The number of each refusal, with what it says.
---   refusal-number   the number by which a refusal is printed and documented; no two refusals have the same
+--   refusal_number   the number by which a refusal is printed and documented; no two refusals have the same
 use Rattle.std.specs.Prelude.{ℕ}
 use Rattle.model.specs.declared.refusal.Refusal.{Refusal}
 use Rattle.model.specs.declared.refusal.Refusal.TheVariants.{Form, Byte, NoRecord, Field, NameTaken, NameUnknown, TooMany, ArcNotAllowed, NotOfKind, Sum, NotAbsorbed, TooLarge, TooManyRounds, Broken, Shut, NotTyped, NoMove, Uncontrollable, Controllable, TooManyOpen, Short, NoRoom, NotOpen, GrantsOpen, NoRow, RowInUse, OverLimit}
 
-abbrev pub refusal-number : Refusal → ℕ
+abbrev pub refusal_number : Refusal → ℕ
 -- a text is empty, too long, or does not end in a newline
-refusal-number Form = 10
+refusal_number Form = 10
 -- a byte that no text may have
-refusal-number Byte = 11
+refusal_number Byte = 11
 -- a record word that is not allowed here, or a wrong count of fields
-refusal-number NoRecord = 12
+refusal_number NoRecord = 12
 -- a field is not a name, number or kind as stated
-refusal-number Field = 13
+refusal_number Field = 13
 -- the name is given already
-refusal-number NameTaken = 14
+refusal_number NameTaken = 14
 -- no place or move has the name
-refusal-number NameUnknown = 15
+refusal_number NameUnknown = 15
 -- too many places, moves or rules
-refusal-number TooMany = 16
+refusal_number TooMany = 16
 -- an arc given again, or in a plant whose kind says its arcs
-refusal-number ArcNotAllowed = 17
+refusal_number ArcNotAllowed = 17
 -- the counts or limits are not those of a plant of this kind
-refusal-number NotOfKind = 18
+refusal_number NotOfKind = 18
 -- a sum that is not written as a sum is, or weighs too much
-refusal-number Sum = 19
+refusal_number Sum = 19
 -- no place gives way to an uncontrollable move that raises the rule
-refusal-number NotAbsorbed = 20
+refusal_number NotAbsorbed = 20
 -- a weight or a bound grows too large in working
-refusal-number TooLarge = 21
+refusal_number TooLarge = 21
 -- the rule is not worked after all the rounds there may be
-refusal-number TooManyRounds = 22
+refusal_number TooManyRounds = 22
 -- the tokens that stand now break the worked rule
-refusal-number Broken = 23
+refusal_number Broken = 23
 -- the layer has no room for control places
-refusal-number Shut = 24
+refusal_number Shut = 24
 -- the rule is none that can be typed
-refusal-number NotTyped = 25
+refusal_number NotTyped = 25
 -- there is no such move
-refusal-number NoMove = 30
+refusal_number NoMove = 30
 -- nobody can grant an uncontrollable move
-refusal-number Uncontrollable = 31
+refusal_number Uncontrollable = 31
 -- nobody reports a controllable move
-refusal-number Controllable = 32
+refusal_number Controllable = 32
 -- as many grants are open as there may be
-refusal-number TooManyOpen = 33
+refusal_number TooManyOpen = 33
 -- a place has fewer free tokens than the move takes
-refusal-number Short = 34
+refusal_number Short = 34
 -- a place would not have room
-refusal-number NoRoom = 35
+refusal_number NoRoom = 35
 -- no grant of the move is open
-refusal-number NotOpen = 36
+refusal_number NotOpen = 36
 -- a grant is open
-refusal-number GrantsOpen = 37
+refusal_number GrantsOpen = 37
 -- the board has no such row
-refusal-number NoRow = 38
+refusal_number NoRow = 38
 -- the row has a rule
-refusal-number RowInUse = 39
+refusal_number RowInUse = 39
 -- a place would go over its limit
-refusal-number OverLimit = 40
+refusal_number OverLimit = 40

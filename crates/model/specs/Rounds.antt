@@ -14,25 +14,25 @@ use Rattle.std.specs.Prelude.{◌≡◌, ℕ, suc, ◌+◌, ◌*◌, ◌/◌, �
 use Rattle.std.specs.Int.{◌∣◌}
 use Rattle.model.specs.declared.refusal.Refusal.TheVariants.{NotTyped, NotAbsorbed, TooLarge, TooManyRounds}
 use Rattle.model.specs.declared.fault.Fault.{Fault}
-use Rattle.model.specs.Sizes.{most-all-places, most-weight, most-bound, most-worked-weight, most-worked-bound, most-rounds}
+use Rattle.model.specs.Sizes.{most_all_places, most_weight, most_bound, most_worked_weight, most_worked_bound, most_rounds}
 use Rattle.model.specs.Net.{Net}
-use Rattle.model.specs.Plant.{setting-fault}
+use Rattle.model.specs.Plant.{setting_fault}
 use Rattle.model.specs.Rule.{Rule, Worked, raise}
 use Rattle.model.specs.Working.{unchanged}
 
 pub record CanBeTyped (n : Net) (r : Rule) : Type 0 where
-  pub weights : (p : ℕ) → p < n.ground-places → unsigned_abs (r.weight p) ≤ most-weight
-  pub elsewhere : (p : ℕ) → n.ground-places ≤ p → p < most-all-places → r.weight p ≡ pos 0
-  pub bound-in : unsigned_abs r.bound ≤ most-bound
+  pub weights : (p : ℕ) → p < n.ground_places → unsigned_abs (r.weight p) ≤ most_weight
+  pub elsewhere : (p : ℕ) → n.ground_places ≤ p → p < most_all_places → r.weight p ≡ pos 0
+  pub bound_in : unsigned_abs r.bound ≤ most_bound
 
 pub record Small (n : Net) (w : Worked) : Type 0 where
-  pub weights : (p : ℕ) → p < n.ground-places → unsigned_abs (w.weight p) ≤ most-worked-weight
-  pub bound-in : unsigned_abs w.bound ≤ most-worked-bound
+  pub weights : (p : ℕ) → p < n.ground_places → unsigned_abs (w.weight p) ≤ most_worked_weight
+  pub bound_in : unsigned_abs w.bound ≤ most_worked_bound
 
 pub record Gcd (a e h : ℕ) : Type 0 where
   pub some : 1 ≤ h
-  pub of-a : h * (a / h) ≡ a
-  pub of-e : h * (e / h) ≡ e
+  pub of_a : h * (a / h) ≡ a
+  pub of_e : h * (e / h) ≡ e
   pub most : (d : ℕ) → d ∣ a → d ∣ e → d ≤ h
 
 -- the move has the raise a, above 0
@@ -41,7 +41,7 @@ pub record LowestRising (n : Net) (w : Worked) (t a : ℕ) : Type 0 where
   pub uncontrollable : n.controllable t ≡ false
   pub raises : raise n w.weight t ≡ pos a
   pub some : 1 ≤ a
-  pub lowest-one : (u : ℕ) → u < t → n.controllable u ≡ false → raise n w.weight u ≤ℤ pos 0
+  pub lowest_one : (u : ℕ) → u < t → n.controllable u ≡ false → raise n w.weight u ≤ℤ pos 0
 
 pub record Round (n : Net) (r s : Worked) : Type 0 where
   pub move : ℕ
@@ -51,10 +51,10 @@ pub record Round (n : Net) (r s : Worked) : Type 0 where
   pub h : ℕ
   pub rising : LowestRising n r move a
   -- the lowest ground place of which it takes more than it gives, by e
-  pub place_in : place < n.ground-places
+  pub place_in : place < n.ground_places
   pub takes : n.give place move + e ≡ n.take place move
-  pub e-some : 1 ≤ e
-  pub place-lowest : (i : ℕ) → i < place → n.take i move ≤ n.give i move
+  pub e_some : 1 ≤ e
+  pub place_lowest : (i : ℕ) → i < place → n.take i move ≤ n.give i move
   pub gcd : Gcd a e h
   -- the new rule
   pub at_place : s.weight place ≡ pos (e / h) *ℤ r.weight place +ℤ pos (a / h)
@@ -96,7 +96,7 @@ pub record StuckOf (n : Net) (most : ℕ) (r : Worked) : Type 0 where
   pub move : ℕ
   pub raised : ℕ
   pub rising : LowestRising n last move raised
-  pub no_place : (p : ℕ) → p < n.ground-places → n.take p move ≤ n.give p move
+  pub no_place : (p : ℕ) → p < n.ground_places → n.take p move ≤ n.give p move
 
 -- the next round's rule is too large
 pub record LargeOf (n : Net) (most : ℕ) (r : Worked) : Type 0 where
@@ -106,16 +106,16 @@ pub record LargeOf (n : Net) (most : ℕ) (r : Worked) : Type 0 where
   pub chain : Chain n count r last
   pub big : Worked
   pub round : Round n last big
-  pub not-small : Small n big → ⊥
+  pub not_small : Small n big → ⊥
 
 abbrev pub RoundsSay : Net → ℕ → Worked → Result Worked Fault → Type 0
 RoundsSay n most r (Ok w) = WorkedOut n most r w
 RoundsSay n most r (Err f) =
-    ((f ≡ setting-fault TooManyRounds) × EndlessOf n most r)
-    ⊎ (((f ≡ setting-fault NotAbsorbed) × StuckOf n most r)
-    ⊎ ((f ≡ setting-fault TooLarge) × LargeOf n most r))
+    ((f ≡ setting_fault TooManyRounds) × EndlessOf n most r)
+    ⊎ (((f ≡ setting_fault NotAbsorbed) × StuckOf n most r)
+    ⊎ ((f ≡ setting_fault TooLarge) × LargeOf n most r))
 
 abbrev pub WorkSays : Net → Rule → Result Worked Fault → Type 0
 WorkSays n typed x =
-    (CanBeTyped n typed × RoundsSay n most-rounds (unchanged typed) x)
-    ⊎ ((CanBeTyped n typed → ⊥) × (x ≡ Err (setting-fault NotTyped)))
+    (CanBeTyped n typed × RoundsSay n most_rounds (unchanged typed) x)
+    ⊎ ((CanBeTyped n typed → ⊥) × (x ≡ Err (setting_fault NotTyped)))

@@ -1,9 +1,9 @@
 // The marked cases, computed on the model.
-ghost use Rattle.model.specs.Cases.{AsMarked, ExampleBuilt, marked-cases};
+ghost use Rattle.model.specs.Cases.{AsMarked, ExampleBuilt, marked_cases};
 
 // Each case of the list came out as it must.
 pub fn cases_hold() -> u8
-    ensures { AsMarked marked-cases }
+    ensures { AsMarked marked_cases }
 {
     0
 }

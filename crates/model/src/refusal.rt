@@ -1,6 +1,6 @@
 // Why a text, a rule or a call is refused, and the number that each refusal is known by.
 ghost use Rattle.std.specs.Prelude.{◌≡◌};
-ghost use Rattle.model.specs.Refusals.{refusal-number};
+ghost use Rattle.model.specs.Refusals.{refusal_number};
 
 #[derive(Clone, Copy, PartialEq, Eq, Debug)]
 pub enum Refusal {
@@ -39,7 +39,7 @@ pub enum Refusal {
 impl Refusal {
     // The number by which this refusal is printed and documented.
     pub fn number(self) -> u8
-        ensures { result ≡ refusal-number self }
+        ensures { result ≡ refusal_number self }
     {
         match self {
             Refusal::Form => 10,

@@ -4,14 +4,14 @@ ghost use Rattle.model.specs.Sizes.{most_bytes};
 ghost use Rattle.formats.specs.declared.kind.Kind.TheVariants.{Bank, Line};
 ghost use Rattle.formats.specs.NetText as said;
 ghost use Rattle.formats.specs.Words.{all, fields, last, lines};
-ghost use Rattle.formats.specs.Texts.{ended, read-lines};
+ghost use Rattle.formats.specs.Texts.{ended, read_lines};
 ghost use Rattle.formats.specs.NetClauses.{shape};
-ghost use Rattle.formats.specs.NetClauses.Shape.{a-place, a_move, an-arc};
-ghost use Rattle.formats.specs.ReadNet.{is-shaped, is_whole, net-reader};
+ghost use Rattle.formats.specs.NetClauses.Shape.{a_place, a_move, an_arc};
+ghost use Rattle.formats.specs.ReadNet.{is_shaped, is_whole, net_reader};
 ghost use Rattle.texts.specs.Lines.{shape_of};
 ghost use Rattle.texts.specs.Spans.{Told};
-ghost use Rattle.net_text.specs.Nets.{place_of, net-of};
-ghost use Rattle.net_text.specs.Reading.{Step, plant-read, end_read, Stands, Located, Locates, Placed, NetRead};
+ghost use Rattle.net_text.specs.Nets.{place_of, net_of};
+ghost use Rattle.net_text.specs.Reading.{Step, plant_read, end_read, Stands, Located, Locates, Placed, NetRead};
 
 use crate::net::{NetText, Place};
 use crate::read::{read_arc, read_kind, read_move, read_place};
@@ -34,9 +34,9 @@ fn add_place(
     tokens: &[u8],
     limit: &[u8],
 ) -> Result<(), ReadError>
-    requires stands { Stands text.now at.byte (a-place name.now tokens.now limit.now) }
+    requires stands { Stands text.now at.byte (a_place name.now tokens.now limit.now) }
     requires text_len_bound { length text.now < 2 ^ 63 }
-    ensures step { Step text.now net.old net.new at.line at.byte (a-place name.now tokens.now limit.now) result }
+    ensures step { Step text.now net.old net.new at.line at.byte (a_place name.now tokens.now limit.now) result }
     ensures located { OnOk result (Locates text.now net.old net.new at.byte) }
 {
     let place = read_place(net, text, at, name, tokens, limit)?;
@@ -72,9 +72,9 @@ fn add_arc(
     take: &[u8],
     give: &[u8],
 ) -> Result<(), ReadError>
-    requires stands { Stands text.now at.byte (an-arc place.now transition.now take.now give.now) }
+    requires stands { Stands text.now at.byte (an_arc place.now transition.now take.now give.now) }
     requires text_len_bound { length text.now < 2 ^ 63 }
-    ensures step { Step text.now net.old net.new at.line at.byte (an-arc place.now transition.now take.now give.now) result }
+    ensures step { Step text.now net.old net.new at.line at.byte (an_arc place.now transition.now take.now give.now) result }
     ensures located { OnOk result (Locates text.now net.old net.new at.byte) }
 {
     let arc = read_arc(net, text, at, place, transition, take, give)?;
@@ -115,7 +115,7 @@ fn add_record(net: &mut NetText, text: &[u8], at: At, line: Record<'_>) -> Resul
 // The kind of plant that the first line says.
 fn read_plant(line: &[u8], at: At) -> Result<Kind, TextFault>
     requires { at.byte + 6 < 2 ^ 64 }
-    ensures { result ≡ plant-read at.line at.byte (shape (fields line.now)) }
+    ensures { result ≡ plant_read at.line at.byte (shape (fields line.now)) }
 {
     match read_line(line, at)? {
         Record::Plant { kind } => read_kind(kind, at, at.byte + 6),
@@ -147,7 +147,7 @@ fn all_single(places: &[Place]) -> bool
 
 // A bank has four places a machine, as many moves, and all limits are 1.
 fn is_bank(net: &NetText) -> bool
-    ensures { (bs : List ℕ) → result ≡ is-shaped Bank (net-of bs net.now).places (net-of bs net.now).moves }
+    ensures { (bs : List ℕ) → result ≡ is_shaped Bank (net_of bs net.now).places (net_of bs net.now).moves }
 {
     if net.places.len() % 4 != 0 || net.moves.len() != net.places.len() {
         return false;
@@ -157,14 +157,14 @@ fn is_bank(net: &NetText) -> bool
 
 // A line has one move more than places.
 fn is_line(net: &NetText) -> bool
-    ensures { (bs : List ℕ) → result ≡ is-shaped Line (net-of bs net.now).places (net-of bs net.now).moves }
+    ensures { (bs : List ℕ) → result ≡ is_shaped Line (net_of bs net.now).places (net_of bs net.now).moves }
 {
     net.places.len() < net.moves.len() && net.moves.len() - net.places.len() == 1
 }
 
 // Whether there are a place and a move, and their counts and limits are those of the kind.
 fn is_whole(net: &NetText) -> bool
-    ensures { (bs : List ℕ) → result ≡ is_whole (net-of bs net.now) }
+    ensures { (bs : List ℕ) → result ≡ is_whole (net_of bs net.now) }
 {
     if net.places.is_empty() || net.moves.is_empty() {
         return false;
@@ -178,7 +178,7 @@ fn is_whole(net: &NetText) -> bool
 
 // What the end of a net text of `size` bytes asks for.
 fn check_end(net: &NetText, size: usize) -> Result<(), TextFault>
-    ensures { (bs : List ℕ) → result ≡ end_read (net-of bs net.now) size }
+    ensures { (bs : List ℕ) → result ≡ end_read (net_of bs net.now) size }
 {
     if is_whole(net) {
         Ok(())
@@ -194,7 +194,7 @@ fn check_end(net: &NetText, size: usize) -> Result<(), TextFault>
 // Reads the lines from `at` to the end of the text.
 fn read_lines(net: &mut NetText, text: &[u8], at: At) -> Result<(), ReadError>
     requires { (at.byte ≤ length text.now) × (at.line ≤ at.byte + 1) × (length text.now ≤ most_bytes) × (last text.now ≡ 10) }
-    ensures answer { Told result (λ _. read-lines net-reader (Some (net-of text.now net.old)) at.line at.byte (lines (drop at.byte text.now)) ≡ ended net-reader (Some (net-of text.now net.new)) (length text.now)) (λ f. read-lines net-reader (Some (net-of text.now net.old)) at.line at.byte (lines (drop at.byte text.now)) ≡ Err f) }
+    ensures answer { Told result (λ _. read_lines net_reader (Some (net_of text.now net.old)) at.line at.byte (lines (drop at.byte text.now)) ≡ ended net_reader (Some (net_of text.now net.new)) (length text.now)) (λ f. read_lines net_reader (Some (net_of text.now net.old)) at.line at.byte (lines (drop at.byte text.now)) ≡ Err f) }
     ensures located { OnOk result (Placed text.now net.old at.byte → Located text.now net.new) }
 {
     let mut line = at.line;

@@ -3,22 +3,22 @@ use Rattle.std.proofs.Common.{◌≡◌, ℕ, zero, suc, ◌+◌, ◌%◌, ◌<�
 use Rattle.std.specs.List.{AllByRecursion}
 use Rattle.std.proofs.lemmas.List.{length-map}
 use Rattle.std.proofs.lemmas.Bool.{and_from, le-leb, lt-ltb}
-use Rattle.model.specs.Sizes.{most-places, most-moves, most-arc, most-limit}
+use Rattle.model.specs.Sizes.{most_places, most_moves, most_arc, most_limit}
 use Rattle.formats.specs.declared.kind.Kind.{Kind}
 use Rattle.formats.specs.declared.kind.Kind.TheVariants.{Net, Bank, Line}
 use Rattle.formats.specs.Words.{all}
 use Rattle.formats.specs.Texts.{Proper}
 use Rattle.formats.specs.NetText as said
 use Rattle.formats.specs.NetText.{Filled, Joins, Shaped}
-use Rattle.formats.specs.NetClauses.{net-meaning}
-use Rattle.formats.specs.ReadNet.{is-net}
+use Rattle.formats.specs.NetClauses.{net_meaning}
+use Rattle.formats.specs.ReadNet.{is_net}
 use Rattle.net_text.specs.declared.net.Place.{Place}
 use Rattle.net_text.specs.declared.net.Move.{Move}
 use Rattle.net_text.specs.declared.net.Arc.{Arc}
 use Rattle.net_text.specs.declared.net.NetText.{NetText}
-use Rattle.net_text.specs.Nets.{place_of, move-of, arc-of, net-of}
+use Rattle.net_text.specs.Nets.{place_of, move_of, arc_of, net_of}
 use Rattle.net_text.specs.Nets.{no_place}
-use Rattle.table.specs.Made.{is-filled, joins, is-fit}
+use Rattle.table.specs.Made.{is_filled, joins, is_fit}
 use Rattle.line.specs.Making.{LineText}
 use Rattle.bank.specs.Making as banks
 
@@ -33,69 +33,69 @@ all_map : {X Y : Type 0} (P : Y → Type 0) (f : X → Y) (t : X → Bool) → (
 all_map P f t by [] h = refl
 all_map P f t by (x ∷ xs) h = and_from (t x) (all t xs) (by x h.0) (all_map P f t by xs h.1)
 
-module _ (bs : List ℕ) (n : NetText) (p : Proper net-meaning (net-of bs n)) where
+module _ (bs : List ℕ) (n : NetText) (p : Proper net_meaning (net_of bs n)) where
   abbrev ps : List Place
   ps = vec_items n.places
 
   abbrev ms : List Move
   ms = vec_items n.moves
 
-  places-counted : length (net-of bs n).places ≡ length ps
-  places-counted = length-map ps (place_of bs)
+  places_counted : length (net_of bs n).places ≡ length ps
+  places_counted = length-map ps (place_of bs)
 
-  moves-counted : length (net-of bs n).moves ≡ length ms
-  moves-counted = length-map ms (move-of bs)
+  moves_counted : length (net_of bs n).moves ≡ length ms
+  moves_counted = length-map ms (move_of bs)
 
-  shaped-by : (k : Kind) → n.kind ≡ k → Shaped k (net-of bs n).places (net-of bs n).moves
-  shaped-by k e = subst (λ (j : Kind). Shaped j (net-of bs n).places (net-of bs n).moves) e p.complete.2
+  shaped_by : (k : Kind) → n.kind ≡ k → Shaped k (net_of bs n).places (net_of bs n).moves
+  shaped_by k e = subst (λ (j : Kind). Shaped j (net_of bs n).places (net_of bs n).moves) e p.complete.2
 
   -- ---- a net
-  pub fits-table : n.kind ≡ Net → is-fit n ≡ true
-  fits-table e =
-      let np : vec_len n.places ≡ length (net-of bs n).places = n.places.ok.0 ∙ sym places-counted in
-      let nm : vec_len n.moves ≡ length (net-of bs n).moves = n.moves.ok.0 ∙ sym moves-counted in
+  pub fits_table : n.kind ≡ Net → is_fit n ≡ true
+  fits_table e =
+      let np : vec_len n.places ≡ length (net_of bs n).places = n.places.ok.0 ∙ sym places_counted in
+      let nm : vec_len n.moves ≡ length (net_of bs n).moves = n.moves.ok.0 ∙ sym moves_counted in
       and_from _ _
-      (and_from _ _ (and_from _ _ (le-leb 1 (vec_len n.places) (omega (arith, p.complete.0))) (le-leb (vec_len n.places) most-places (omega (arith, p.right.few-places))))
-      (and_from _ _ (le-leb 1 (vec_len n.moves) (omega (arith, p.complete.1))) (le-leb (vec_len n.moves) most-moves (omega (arith, p.right.few-moves)))))
-      (and_from _ _ (ap is-net e)
-      (and_from _ _ (all_map Filled (place_of bs) is-filled filled ps p.right.filled)
-      (all_map (Joins (length (net-of bs n).places) (length (net-of bs n).moves)) arc-of (joins (vec_len n.places) (vec_len n.moves))
+      (and_from _ _ (and_from _ _ (le-leb 1 (vec_len n.places) (omega (arith, p.complete.0))) (le-leb (vec_len n.places) most_places (omega (arith, p.right.few_places))))
+      (and_from _ _ (le-leb 1 (vec_len n.moves) (omega (arith, p.complete.1))) (le-leb (vec_len n.moves) most_moves (omega (arith, p.right.few_moves)))))
+      (and_from _ _ (ap is_net e)
+      (and_from _ _ (all_map Filled (place_of bs) is_filled filled ps p.right.filled)
+      (all_map (Joins (length (net_of bs n).places) (length (net_of bs n).moves)) arc_of (joins (vec_len n.places) (vec_len n.moves))
       (joined np nm) (vec_items n.arcs) p.right.joining)))
     where
-      filled : (q : Place) → Filled (place_of bs q) → is-filled q ≡ true
-      filled q h = and_from _ _ (le-leb 1 q.limit h.1) (and_from _ _ (le-leb q.limit most-limit (omega (arith, h.2))) (le-leb q.tokens q.limit h.0))
+      filled : (q : Place) → Filled (place_of bs q) → is_filled q ≡ true
+      filled q h = and_from _ _ (le-leb 1 q.limit h.1) (and_from _ _ (le-leb q.limit most_limit (omega (arith, h.2))) (le-leb q.tokens q.limit h.0))
 
-      joined : vec_len n.places ≡ length (net-of bs n).places → vec_len n.moves ≡ length (net-of bs n).moves
-          → (a : Arc) → Joins (length (net-of bs n).places) (length (net-of bs n).moves) (arc-of a) → joins (vec_len n.places) (vec_len n.moves) a ≡ true
+      joined : vec_len n.places ≡ length (net_of bs n).places → vec_len n.moves ≡ length (net_of bs n).moves
+          → (a : Arc) → Joins (length (net_of bs n).places) (length (net_of bs n).moves) (arc_of a) → joins (vec_len n.places) (vec_len n.moves) a ≡ true
       joined np nm a h =
           and_from _ _ (lt-ltb a.place (vec_len n.places) (omega (arith, h.0)))
           (and_from _ _ (lt-ltb a.transition (vec_len n.moves) (omega (arith, h.1)))
-          (and_from _ _ (le-leb a.take most-arc (omega (arith, h.2))) (le-leb a.give most-arc (omega (arith, h.3)))))
+          (and_from _ _ (le-leb a.take most_arc (omega (arith, h.2))) (le-leb a.give most_arc (omega (arith, h.3)))))
 
   -- ---- a line
   pub fits_line : n.kind ≡ Line → LineText n
   fits_line e =
-      let s = shaped-by Line e in
+      let s = shaped_by Line e in
       record {
         kind = e;
-        some = omega (arith, p.complete.0, places-counted);
-        moves = sym moves-counted ∙ s ∙ ap (λ (k : ℕ). k + 1) places-counted;
-        few = omega (arith, p.right.few-moves, moves-counted);
+        some = omega (arith, p.complete.0, places_counted);
+        moves = sym moves_counted ∙ s ∙ ap (λ (k : ℕ). k + 1) places_counted;
+        few = omega (arith, p.right.few_moves, moves_counted);
         slots = λ i l. let f = each_map Filled (place_of bs) ps no_place p.right.filled i l in record { some = f.1; small = omega (arith, f.2); within = f.0 };
       }
 
   -- ---- a bank
-  pub fits-bank : n.kind ≡ Bank → banks.BankText n
-  fits-bank e =
-      let s = shaped-by Bank e in
-      let whole : length ps % 4 ≡ 0 = ap (λ (k : ℕ). k % 4) (sym places-counted) ∙ s.0 in
+  pub fits_bank : n.kind ≡ Bank → banks.BankText n
+  fits_bank e =
+      let s = shaped_by Bank e in
+      let whole : length ps % 4 ≡ 0 = ap (λ (k : ℕ). k % 4) (sym places_counted) ∙ s.0 in
       record {
         shaped = record {
           kind = e;
-          some = omega (arith, p.complete.0, places-counted, whole);
-          few = omega (arith, p.right.few-places, places-counted);
+          some = omega (arith, p.complete.0, places_counted, whole);
+          few = omega (arith, p.right.few_places, places_counted);
           whole = whole;
-          moves = sym moves-counted ∙ s.1 ∙ places-counted;
+          moves = sym moves_counted ∙ s.1 ∙ places_counted;
         };
         single = λ i l.
             let f = each_map Filled (place_of bs) ps no_place p.right.filled i l in

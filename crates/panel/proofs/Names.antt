@@ -7,70 +7,70 @@ use Rattle.formats.specs.Words.{index_of}
 use Rattle.texts.specs.Spans.{found}
 
 module _ (n : List ℕ) where
-  index-first : (xs ys : List (List ℕ)) → index_of xs n < length xs → index_of (xs ++ ys) n ≡ index_of xs n
-  index-first [] ys l = absurd (omega arith)
-  index-first (x ∷ xs) ys l = go (bytes_eq x n) (index_of xs n) (index_of (xs ++ ys) n) (λ m. index-first xs ys m) l
+  index_first : (xs ys : List (List ℕ)) → index_of xs n < length xs → index_of (xs ++ ys) n ≡ index_of xs n
+  index_first [] ys l = absurd (omega arith)
+  index_first (x ∷ xs) ys l = go (bytes_eq x n) (index_of xs n) (index_of (xs ++ ys) n) (λ m. index_first xs ys m) l
     where
       go : (b : Bool) (i j : ℕ) → (i < length xs → j ≡ i) → cond b 0 (suc i) < suc (length xs) → cond b 0 (suc j) ≡ cond b 0 (suc i)
       go true i j on m = refl
       go false i j on m = ap suc (on (omega arith))
 
-  index-second : (xs ys : List (List ℕ)) → length xs ≤ index_of xs n → index_of (xs ++ ys) n ≡ length xs + index_of ys n
-  index-second [] ys l = omega arith
-  index-second (x ∷ xs) ys l = go (bytes_eq x n) (index_of xs n) (index_of (xs ++ ys) n) (λ m. index-second xs ys m) l
+  index_second : (xs ys : List (List ℕ)) → length xs ≤ index_of xs n → index_of (xs ++ ys) n ≡ length xs + index_of ys n
+  index_second [] ys l = omega arith
+  index_second (x ∷ xs) ys l = go (bytes_eq x n) (index_of xs n) (index_of (xs ++ ys) n) (λ m. index_second xs ys m) l
     where
       go : (b : Bool) (i j : ℕ) → (length xs ≤ i → j ≡ length xs + index_of ys n) → suc (length xs) ≤ cond b 0 (suc i) → cond b 0 (suc j) ≡ suc (length xs) + index_of ys n
       go true i j on m = absurd (omega arith)
       go false i j on m = let e : j ≡ length xs + index_of ys n = on (omega arith) in omega arith
 
   -- ---- what a look-up says
-  found-says : (xs : List (List ℕ)) (p : ℕ) → Some p ≡ found xs n → (index_of xs n ≡ p) × (p < length xs)
-  found-says xs p e = go (nat_lt (index_of xs n) (length xs)) refl e
+  found_says : (xs : List (List ℕ)) (p : ℕ) → Some p ≡ found xs n → (index_of xs n ≡ p) × (p < length xs)
+  found_says xs p e = go (nat_lt (index_of xs n) (length xs)) refl e
     where
       go : (b : Bool) → nat_lt (index_of xs n) (length xs) ≡ b → Some p ≡ cond b (Some (index_of xs n)) None → (index_of xs n ≡ p) × (p < length xs)
       go true q f = let i : p ≡ index_of xs n = cc in (sym i, omega (arith, ltb-true (index_of xs n) (length xs) q))
       go false q f = let z : ◌≡◌ {A = ℕ} 0 1 = cc in absurd (omega arith)
 
-  missing-says : (xs : List (List ℕ)) → None ≡ found xs n → length xs ≤ index_of xs n
-  missing-says xs e = go (nat_lt (index_of xs n) (length xs)) refl e
+  missing_says : (xs : List (List ℕ)) → None ≡ found xs n → length xs ≤ index_of xs n
+  missing_says xs e = go (nat_lt (index_of xs n) (length xs)) refl e
     where
       go : (b : Bool) → nat_lt (index_of xs n) (length xs) ≡ b → None ≡ cond b (Some (index_of xs n)) None → length xs ≤ index_of xs n
       go true q f = let z : ◌≡◌ {A = ℕ} 0 1 = cc in absurd (omega arith)
       go false q f = ltb-false (index_of xs n) (length xs) q
 
-  found-is : (xs : List (List ℕ)) (p : ℕ) → index_of xs n ≡ p → p < length xs → Some p ≡ found xs n
-  found-is xs p e l = ap Some (sym e) ∙ sym (cond-true _ _ _ (lt-ltb (index_of xs n) (length xs) (omega arith)))
+  found_is : (xs : List (List ℕ)) (p : ℕ) → index_of xs n ≡ p → p < length xs → Some p ≡ found xs n
+  found_is xs p e l = ap Some (sym e) ∙ sym (cond-true _ _ _ (lt-ltb (index_of xs n) (length xs) (omega arith)))
 
-  missing-is : (xs : List (List ℕ)) → length xs ≤ index_of xs n → None ≡ found xs n
-  missing-is xs l = sym (cond-false _ _ _ (le-ltb (index_of xs n) (length xs) l))
+  missing_is : (xs : List (List ℕ)) → length xs ≤ index_of xs n → None ≡ found xs n
+  missing_is xs l = sym (cond-false _ _ _ (le-ltb (index_of xs n) (length xs) l))
 
   -- ---- and in two lists
   module _ (xs ys : List (List ℕ)) where
-    pub found-first : (p : ℕ) → Some p ≡ found xs n → Some p ≡ found (xs ++ ys) n
-    found-first p e =
-        let s = found-says xs p e in
-        found-is (xs ++ ys) p (index-first xs ys (omega arith) ∙ s.0) (omega (arith, length-append xs ys))
+    pub found_first : (p : ℕ) → Some p ≡ found xs n → Some p ≡ found (xs ++ ys) n
+    found_first p e =
+        let s = found_says xs p e in
+        found_is (xs ++ ys) p (index_first xs ys (omega arith) ∙ s.0) (omega (arith, length-append xs ys))
 
-    pub found-second : (p : ℕ) → None ≡ found xs n → Some p ≡ found ys n → Some (length xs + p) ≡ found (xs ++ ys) n
-    found-second p e f =
-        let s = found-says ys p f in
-        found-is (xs ++ ys) (length xs + p) (index-second xs ys (missing-says xs e) ∙ ap (λ i. length xs + i) s.0) (omega (arith, length-append xs ys))
+    pub found_second : (p : ℕ) → None ≡ found xs n → Some p ≡ found ys n → Some (length xs + p) ≡ found (xs ++ ys) n
+    found_second p e f =
+        let s = found_says ys p f in
+        found_is (xs ++ ys) (length xs + p) (index_second xs ys (missing_says xs e) ∙ ap (λ i. length xs + i) s.0) (omega (arith, length-append xs ys))
 
-    pub found-neither : None ≡ found xs n → None ≡ found ys n → None ≡ found (xs ++ ys) n
-    found-neither e f =
-        let i : index_of (xs ++ ys) n ≡ length xs + index_of ys n = index-second xs ys (missing-says xs e) in
-        missing-is (xs ++ ys) (omega (arith, length-append xs ys, missing-says ys f))
+    pub found_neither : None ≡ found xs n → None ≡ found ys n → None ≡ found (xs ++ ys) n
+    found_neither e f =
+        let i : index_of (xs ++ ys) n ≡ length xs + index_of ys n = index_second xs ys (missing_says xs e) in
+        missing_is (xs ++ ys) (omega (arith, length-append xs ys, missing_says ys f))
 
   -- one name alone, and then others
-  pub found-here : (x : List ℕ) (xs : List (List ℕ)) → bytes_eq x n ≡ true → Some 0 ≡ found (x ∷ xs) n
-  found-here x xs e = found-is (x ∷ xs) 0 (cond-true _ _ _ e) (omega arith)
+  pub found_here : (x : List ℕ) (xs : List (List ℕ)) → bytes_eq x n ≡ true → Some 0 ≡ found (x ∷ xs) n
+  found_here x xs e = found_is (x ∷ xs) 0 (cond-true _ _ _ e) (omega arith)
 
-  pub found-later : (x : List ℕ) (xs : List (List ℕ)) (p : ℕ) → bytes_eq x n ≡ false → Some p ≡ found xs n → Some (1 + p) ≡ found (x ∷ xs) n
-  found-later x xs p e f = let s = found-says xs p f in found-is (x ∷ xs) (1 + p) (cond-false _ _ _ e ∙ omega arith) (omega arith)
+  pub found_later : (x : List ℕ) (xs : List (List ℕ)) (p : ℕ) → bytes_eq x n ≡ false → Some p ≡ found xs n → Some (1 + p) ≡ found (x ∷ xs) n
+  found_later x xs p e f = let s = found_says xs p f in found_is (x ∷ xs) (1 + p) (cond-false _ _ _ e ∙ omega arith) (omega arith)
 
-  pub found-never : (x : List ℕ) (xs : List (List ℕ)) → bytes_eq x n ≡ false → None ≡ found xs n → None ≡ found (x ∷ xs) n
-  found-never x xs e f = let i : index_of (x ∷ xs) n ≡ suc (index_of xs n) = cond-false _ _ _ e in missing-is (x ∷ xs) (omega (arith, missing-says xs f))
+  pub found_never : (x : List ℕ) (xs : List (List ℕ)) → bytes_eq x n ≡ false → None ≡ found xs n → None ≡ found (x ∷ xs) n
+  found_never x xs e f = let i : index_of (x ∷ xs) n ≡ suc (index_of xs n) = cond-false _ _ _ e in missing_is (x ∷ xs) (omega (arith, missing_says xs f))
 
 -- no name is there: `-` is printed
-pub name-missing : (ns : List (List ℕ)) (i : ℕ) → None ≡ slice_get ns i → codes "-" ≡ get_or ns i (codes "-")
-name-missing ns i e = ap (λ (o : Option (List ℕ)). unwrap_or o (codes "-")) e ∙ unwrap_or-slice_get ns i (codes "-")
+pub name_missing : (ns : List (List ℕ)) (i : ℕ) → None ≡ slice_get ns i → codes "-" ≡ get_or ns i (codes "-")
+name_missing ns i e = ap (λ (o : Option (List ℕ)). unwrap_or o (codes "-")) e ∙ unwrap_or-slice_get ns i (codes "-")

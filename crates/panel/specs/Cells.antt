@@ -1,23 +1,23 @@
 -- A cell by value: what its net text and its rules text say that a run depends on.
 --   no_place, no_move, no_rule    what is read past the end of the places, moves and rules
---   limit-of, free_of, letter-of   of the net x: the limit of the place p, its tokens at the start, and whether the move t is controllable
---   arc-takes, arc-gives what the arcs of x say that the move t takes from the place p, and gives to it; 0 where there is no arc
---   plant-net        the net of the plant that x tells of, by its kind
---   typed-of q       the rule that a line of the rules text types
+--   limit_of, free_of, letter_of   of the net x: the limit of the place p, its tokens at the start, and whether the move t is controllable
+--   arc_takes, arc_gives what the arcs of x say that the move t takes from the place p, and gives to it; 0 where there is no arc
+--   plant_net        the net of the plant that x tells of, by its kind
+--   typed_of q       the rule that a line of the rules text types
 --   Cell             names, net, tokens at the start, and rules as typed: the fixed one, and the one of each rule line
---   pile-names       the names of all places of the cell's pile: the ground places, then the fixed rule's place, then those of the rules
---   cell-of          the cell of a net text and a rules text
+--   pile_names       the names of all places of the cell's pile: the ground places, then the fixed rule's place, then those of the rules
+--   cell_of          the cell of a net text and a rules text
 use Rattle.std.specs.Prelude.{ℕ, pos, Bool, false, cond, ◌&&◌, List, [], ◌∷◌, ◌++◌, map, length, fold, ◌==◌, slice_index_or}
 use Rattle.model.specs.Net as model
 use Rattle.model.specs.Rule.{Rule}
 use Rattle.formats.specs.declared.kind.Kind.{Kind}
 use Rattle.formats.specs.declared.kind.Kind.TheVariants.{Net, Bank, Line}
-use Rattle.formats.specs.NetText.{Place, Move, Arc, NetText, place-names, move-names}
+use Rattle.formats.specs.NetText.{Place, Move, Arc, NetText, place_names, move_names}
 use Rattle.formats.specs.Sums.{weight}
 use Rattle.formats.specs.RulesText.{RuleLine, RulesText}
-use Rattle.table.specs.Tables.{table-net}
-use Rattle.bank.specs.Banks.{bank-net}
-use Rattle.line.specs.Lines.{line-net}
+use Rattle.table.specs.Tables.{table_net}
+use Rattle.bank.specs.Banks.{bank_net}
+use Rattle.line.specs.Lines.{line_net}
 
 abbrev pub no_place : Place
 no_place = record { name = []; tokens = 0; limit = 0 }
@@ -28,35 +28,35 @@ no_move = record { name = []; controllable = false }
 abbrev pub no_rule : RuleLine
 no_rule = record { name = []; sum = []; bound = pos 0 }
 
-abbrev pub limit-of : NetText → ℕ → ℕ
-limit-of x p = (slice_index_or x.places p no_place).limit
+abbrev pub limit_of : NetText → ℕ → ℕ
+limit_of x p = (slice_index_or x.places p no_place).limit
 
 abbrev pub free_of : NetText → ℕ → ℕ
 free_of x p = (slice_index_or x.places p no_place).tokens
 
-abbrev pub letter-of : NetText → ℕ → Bool
-letter-of x t = (slice_index_or x.moves t no_move).controllable
+abbrev pub letter_of : NetText → ℕ → Bool
+letter_of x t = (slice_index_or x.moves t no_move).controllable
 
 -- by one number of an arc; a net that is right has one arc for a place and a move, or none
-abbrev pub arcs-say : (Arc → ℕ) → NetText → ℕ → ℕ → ℕ
-arcs-say number x p t = fold (λ v (a : Arc). cond (a.place == p && a.move == t) (number a) v) 0 x.arcs
+abbrev pub arcs_say : (Arc → ℕ) → NetText → ℕ → ℕ → ℕ
+arcs_say number x p t = fold (λ v (a : Arc). cond (a.place == p && a.move == t) (number a) v) 0 x.arcs
 
-abbrev pub arc-takes : NetText → ℕ → ℕ → ℕ
-arc-takes x = arcs-say (λ (a : Arc). a.take) x
+abbrev pub arc_takes : NetText → ℕ → ℕ → ℕ
+arc_takes x = arcs_say (λ (a : Arc). a.take) x
 
-abbrev pub arc-gives : NetText → ℕ → ℕ → ℕ
-arc-gives x = arcs-say (λ (a : Arc). a.give) x
+abbrev pub arc_gives : NetText → ℕ → ℕ → ℕ
+arc_gives x = arcs_say (λ (a : Arc). a.give) x
 
-abbrev pub net-by : Kind → NetText → model.Net
-net-by Net x = table-net (length x.places) (length x.moves) (letter-of x) (arc-takes x) (arc-gives x) (limit-of x)
-net-by Bank x = bank-net (length x.places) (letter-of x)
-net-by Line x = line-net (length x.places) (limit-of x) (letter-of x)
+abbrev pub net_by : Kind → NetText → model.Net
+net_by Net x = table_net (length x.places) (length x.moves) (letter_of x) (arc_takes x) (arc_gives x) (limit_of x)
+net_by Bank x = bank_net (length x.places) (letter_of x)
+net_by Line x = line_net (length x.places) (limit_of x) (letter_of x)
 
-abbrev pub plant-net : NetText → model.Net
-plant-net x = net-by x.kind x
+abbrev pub plant_net : NetText → model.Net
+plant_net x = net_by x.kind x
 
-abbrev pub typed-of : RuleLine → Rule
-typed-of q = record { weight = weight q.sum; bound = q.bound }
+abbrev pub typed_of : RuleLine → Rule
+typed_of q = record { weight = weight q.sum; bound = q.bound }
 
 pub record Cell : Type 0 where
   pub places : List (List ℕ)
@@ -65,20 +65,20 @@ pub record Cell : Type 0 where
   pub rules : List (List ℕ)
   pub net : model.Net
   pub free : ℕ → ℕ
-  pub typed-fixed : Rule
+  pub typed_fixed : Rule
   pub typed : ℕ → Rule
 
-abbrev pub pile-names : Cell → List (List ℕ)
-pile-names c = c.places ++ (c.fixed ∷ c.rules)
+abbrev pub pile_names : Cell → List (List ℕ)
+pile_names c = c.places ++ (c.fixed ∷ c.rules)
 
-abbrev pub cell-of : NetText → RulesText → Cell
-cell-of x y = record {
-  places = place-names x;
-  moves = move-names x;
+abbrev pub cell_of : NetText → RulesText → Cell
+cell_of x y = record {
+  places = place_names x;
+  moves = move_names x;
   fixed = y.fixed.name;
   rules = map (λ (r : RuleLine). r.name) y.others;
-  net = plant-net x;
+  net = plant_net x;
   free = free_of x;
-  typed-fixed = typed-of y.fixed;
-  typed = λ r. typed-of (slice_index_or y.others r no_rule);
+  typed_fixed = typed_of y.fixed;
+  typed = λ r. typed_of (slice_index_or y.others r no_rule);
 }

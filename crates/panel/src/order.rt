@@ -1,11 +1,11 @@
 // An order line, read.
 ghost use Rattle.std.specs.Prelude.{◌≡◌};
 ghost use Rattle.formats.specs.Words.{fields};
-ghost use Rattle.rules.specs.Rules.{rule-of};
-ghost use Rattle.panel.specs.Orders.{order-of, by-word, with-move, with-rule, with-place};
-ghost use Rattle.panel.specs.Said.{cell-said, line-rule};
-ghost use Rattle.ledger.specs.Calls.{call-of};
-ghost use Rattle.panel.specs.Asked.{verb-call, order-said};
+ghost use Rattle.rules.specs.Rules.{rule_of};
+ghost use Rattle.panel.specs.Orders.{order_of, by_word, with_move, with_rule, with_place};
+ghost use Rattle.panel.specs.Said.{cell_said, line_rule};
+ghost use Rattle.ledger.specs.Calls.{call_of};
+ghost use Rattle.panel.specs.Asked.{verb_call, order_said};
 
 use crate::said::{Said, move_named, place_named, rule_named};
 use ledger::call::Call;
@@ -36,7 +36,7 @@ pub enum Verb {
 
 // The call of the move `t`.
 fn call(verb: Verb, t: usize) -> Call
-    ensures { call-of result ≡ verb-call verb t }
+    ensures { call_of result ≡ verb_call verb t }
 {
     match verb {
         Verb::Grant => Call::Grant(t),
@@ -48,7 +48,7 @@ fn call(verb: Verb, t: usize) -> Call
 
 // The rule that a line types.
 pub(crate) fn typed(line: &RuleLine) -> TypedRule
-    ensures { rule-of result ≡ line-rule line.now }
+    ensures { rule_of result ≡ line_rule line.now }
 {
     TypedRule {
         weights: line.weights,
@@ -58,7 +58,7 @@ pub(crate) fn typed(line: &RuleLine) -> TypedRule
 
 // A call of the move of that name.
 fn with_move(said: Said, verb: Verb, name: &[u8]) -> Order
-    ensures { order-said result ≡ with-move (cell-said said.entry.net_text.now said.entry.net.now said.entry.rules_text.now said.entry.rules.now) (verb-call verb) name.now }
+    ensures { order_said result ≡ with_move (cell_said said.entry.net_text.now said.entry.net.now said.entry.rules_text.now said.entry.rules.now) (verb_call verb) name.now }
 {
     match move_named(said, name) {
         Some(t) => Order::Make(call(verb, t)),
@@ -68,7 +68,7 @@ fn with_move(said: Said, verb: Verb, name: &[u8]) -> Order
 
 // The admission of the rule of that name: rule line r belongs to row r.
 fn with_rule(said: Said, name: &[u8]) -> Order
-    ensures { order-said result ≡ with-rule (cell-said said.entry.net_text.now said.entry.net.now said.entry.rules_text.now said.entry.rules.now) name.now }
+    ensures { order_said result ≡ with_rule (cell_said said.entry.net_text.now said.entry.net.now said.entry.rules_text.now said.entry.rules.now) name.now }
 {
     let Some(r) = rule_named(said, name) else {
         return Order::NoName;
@@ -81,7 +81,7 @@ fn with_rule(said: Said, name: &[u8]) -> Order
 
 // The question for the place of that name.
 fn with_place(said: Said, name: &[u8]) -> Order
-    ensures { order-said result ≡ with-place (cell-said said.entry.net_text.now said.entry.net.now said.entry.rules_text.now said.entry.rules.now) name.now }
+    ensures { order_said result ≡ with_place (cell_said said.entry.net_text.now said.entry.net.now said.entry.rules_text.now said.entry.rules.now) name.now }
 {
     match place_named(said, name) {
         Some(p) => Order::Show(p),
@@ -91,7 +91,7 @@ fn with_place(said: Said, name: &[u8]) -> Order
 
 // An order by its word and its name.
 fn by_word(said: Said, word: &[u8], name: &[u8]) -> Order
-    ensures { order-said result ≡ by-word (cell-said said.entry.net_text.now said.entry.net.now said.entry.rules_text.now said.entry.rules.now) word.now name.now }
+    ensures { order_said result ≡ by_word (cell_said said.entry.net_text.now said.entry.net.now said.entry.rules_text.now said.entry.rules.now) word.now name.now }
 {
     if same(word, b"grant") {
         with_move(said, Verb::Grant, name)
@@ -112,7 +112,7 @@ fn by_word(said: Said, word: &[u8], name: &[u8]) -> Order
 
 // An order: its word and one more field.
 pub(crate) fn read_order(said: Said, line: &[u8]) -> Order
-    ensures { order-said result ≡ order-of (cell-said said.entry.net_text.now said.entry.net.now said.entry.rules_text.now said.entry.rules.now) (fields line.now) }
+    ensures { order_said result ≡ order_of (cell_said said.entry.net_text.now said.entry.net.now said.entry.rules_text.now said.entry.rules.now) (fields line.now) }
 {
     let (word, rest) = cut(line);
     let Some(rest) = rest else {

@@ -1,6 +1,6 @@
 // Printing: each function adds what it prints to the bytes so far.
 ghost use Rattle.std.specs.Prelude.{◌≡◌, ℕ, ◌^◌, ◌<◌, [], ◌∷◌, ◌++◌, decimal, OnOk};
-ghost use Rattle.panel.specs.Prints.{bad-line, at-line, ok-line, refused-line};
+ghost use Rattle.panel.specs.Prints.{bad_line, at_line, ok_line, refused_line};
 
 use formats::fault::TextFault;
 use model::refusal::Refusal;
@@ -34,7 +34,7 @@ fn put_count(out: &mut Vec<u8>, n: usize) -> Result<(), AllocError>
 
 // `bad WHICH NUMBER LINE BYTE`: a text is refused.
 pub fn put_bad(out: &mut Vec<u8>, which: &[u8], fault: TextFault) -> Result<(), AllocError>
-    ensures { OnOk result (out.new.items ≡ out.old.items ++ bad-line which.now fault) }
+    ensures { OnOk result (out.new.items ≡ out.old.items ++ bad_line which.now fault) }
 {
     put(out, b"bad\t")?;
     put(out, which)?;
@@ -47,7 +47,7 @@ pub fn put_bad(out: &mut Vec<u8>, which: &[u8], fault: TextFault) -> Result<(), 
 
 // `at NAME FREE`: the free tokens of a place.
 pub fn put_at(out: &mut Vec<u8>, name: &[u8], free: u32) -> Result<(), AllocError>
-    ensures { OnOk result (out.new.items ≡ out.old.items ++ at-line name.now free) }
+    ensures { OnOk result (out.new.items ≡ out.old.items ++ at_line name.now free) }
 {
     put(out, b"at\t")?;
     put(out, name)?;
@@ -58,7 +58,7 @@ pub fn put_at(out: &mut Vec<u8>, name: &[u8], free: u32) -> Result<(), AllocErro
 
 // `ok`: a call is accepted.
 pub fn put_ok(out: &mut Vec<u8>) -> Result<(), AllocError>
-    ensures { OnOk result (out.new.items ≡ out.old.items ++ ok-line) }
+    ensures { OnOk result (out.new.items ≡ out.old.items ++ ok_line) }
 {
     put(out, b"ok\n")
 }
@@ -70,7 +70,7 @@ pub fn put_no(
     transition: &[u8],
     place: &[u8],
 ) -> Result<(), AllocError>
-    ensures { OnOk result (out.new.items ≡ out.old.items ++ refused-line refusal transition.now place.now) }
+    ensures { OnOk result (out.new.items ≡ out.old.items ++ refused_line refusal transition.now place.now) }
 {
     put(out, b"no")?;
     put_count(out, usize::from(refusal.number()))?;

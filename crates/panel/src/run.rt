@@ -1,19 +1,19 @@
 // The run of a cell, from its three texts to what is printed.
 ghost use Rattle.std.specs.Prelude.{◌≡◌, ◌++◌, Ok, codes, IfOk, OnOk};
-ghost use Rattle.texts.specs.Lines.{text-check};
+ghost use Rattle.texts.specs.Lines.{text_check};
 ghost use Rattle.formats.specs.NetText.{NetText as NetSaid};
-ghost use Rattle.formats.specs.NetText.{names, place-names};
+ghost use Rattle.formats.specs.NetText.{names, place_names};
 ghost use Rattle.formats.specs.RulesText.{RulesText as RulesSaid};
-ghost use Rattle.formats.specs.RulesText.{read-rules, rules-meaning};
-ghost use Rattle.formats.specs.NetClauses.{net-meaning};
+ghost use Rattle.formats.specs.RulesText.{read_rules, rules_meaning};
+ghost use Rattle.formats.specs.NetClauses.{net_meaning};
 ghost use Rattle.formats.specs.Texts.{Proper, fault, written};
-ghost use Rattle.net_text.specs.Nets.{net-of};
-ghost use Rattle.panel.specs.Prints.{bad-line};
-ghost use Rattle.model.specs.Layer.{monitor-answer};
-ghost use Rattle.panel.specs.Orders.{start-monitor, BuiltCell, Started, ran};
-ghost use Rattle.panel.specs.Cells.{cell-of};
-ghost use Rattle.panel.specs.Said.{cell-said};
-ghost use Rattle.panel.specs.Run.{by-rules, printed};
+ghost use Rattle.net_text.specs.Nets.{net_of};
+ghost use Rattle.panel.specs.Prints.{bad_line};
+ghost use Rattle.model.specs.Layer.{monitor_answer};
+ghost use Rattle.panel.specs.Orders.{start_monitor, BuiltCell, Started, ran};
+ghost use Rattle.panel.specs.Cells.{cell_of};
+ghost use Rattle.panel.specs.Said.{cell_said};
+ghost use Rattle.panel.specs.Run.{by_rules, printed};
 
 use crate::obey::obey_all;
 use crate::order::typed;
@@ -34,7 +34,7 @@ use texts::stop::ReadError;
 
 // `bad fixed NUMBER 1 0`: the fixed rule is refused.
 fn put_bad_fixed(out: &mut Vec<u8>, refusal: Refusal) -> Result<(), AllocError>
-    ensures { OnOk result (out.new.items ≡ out.old.items ++ bad-line (codes "fixed") (fault refusal 1 0)) }
+    ensures { OnOk result (out.new.items ≡ out.old.items ++ bad_line (codes "fixed") (fault refusal 1 0)) }
 {
     let fault = TextFault {
         refusal,
@@ -52,11 +52,11 @@ fn run_checked<P: Plant + Drop>(
     plant: P,
     orders: &[u8],
 ) -> Result<(), AllocError>
-    requires net { P.Net.net plant ≡ (cell-said said.net_text.now said.net.now said.rules_text.now said.rules.now).net }
-    requires tokens { P.Plant.tokens plant ≡ (cell-said said.net_text.now said.net.now said.rules_text.now said.rules.now).free }
-    requires checked { Ok tt ≡ text-check orders.now }
-    ensures printed { OnOk result (out.new.items ≡ out.old.items ++ ran (cell-said said.entry.net_text.now said.entry.net.now said.entry.rules_text.now said.entry.rules.now) orders.now) }
-    ensures built { Ok tt ≡ monitor-answer (start-monitor (cell-said said.entry.net_text.now said.entry.net.now said.entry.rules_text.now said.entry.rules.now)) (cell-said said.entry.net_text.now said.entry.net.now said.entry.rules_text.now said.entry.rules.now).typed-fixed → BuiltCell (cell-said said.entry.net_text.now said.entry.net.now said.entry.rules_text.now said.entry.rules.now) }
+    requires net { P.Net.net plant ≡ (cell_said said.net_text.now said.net.now said.rules_text.now said.rules.now).net }
+    requires tokens { P.Plant.tokens plant ≡ (cell_said said.net_text.now said.net.now said.rules_text.now said.rules.now).free }
+    requires checked { Ok tt ≡ text_check orders.now }
+    ensures printed { OnOk result (out.new.items ≡ out.old.items ++ ran (cell_said said.entry.net_text.now said.entry.net.now said.entry.rules_text.now said.entry.rules.now) orders.now) }
+    ensures built { Ok tt ≡ monitor_answer (start_monitor (cell_said said.entry.net_text.now said.entry.net.now said.entry.rules_text.now said.entry.rules.now)) (cell_said said.entry.net_text.now said.entry.net.now said.entry.rules_text.now said.entry.rules.now).typed_fixed → BuiltCell (cell_said said.entry.net_text.now said.entry.net.now said.entry.rules_text.now said.entry.rules.now) }
 {
     match build(plant, &typed(&said.rules.fixed)) {
         Ok(pile) => {
@@ -74,10 +74,10 @@ fn run_plant<P: Plant + Drop>(
     plant: P,
     orders: &[u8],
 ) -> Result<(), AllocError>
-    requires net { P.Net.net plant ≡ (cell-said said.net_text.now said.net.now said.rules_text.now said.rules.now).net }
-    requires tokens { P.Plant.tokens plant ≡ (cell-said said.net_text.now said.net.now said.rules_text.now said.rules.now).free }
-    ensures printed { OnOk result (out.new.items ≡ out.old.items ++ ran (cell-said said.entry.net_text.now said.entry.net.now said.entry.rules_text.now said.entry.rules.now) orders.now) }
-    ensures built { Ok tt ≡ text-check orders.now → Ok tt ≡ monitor-answer (start-monitor (cell-said said.entry.net_text.now said.entry.net.now said.entry.rules_text.now said.entry.rules.now)) (cell-said said.entry.net_text.now said.entry.net.now said.entry.rules_text.now said.entry.rules.now).typed-fixed → BuiltCell (cell-said said.entry.net_text.now said.entry.net.now said.entry.rules_text.now said.entry.rules.now) }
+    requires net { P.Net.net plant ≡ (cell_said said.net_text.now said.net.now said.rules_text.now said.rules.now).net }
+    requires tokens { P.Plant.tokens plant ≡ (cell_said said.net_text.now said.net.now said.rules_text.now said.rules.now).free }
+    ensures printed { OnOk result (out.new.items ≡ out.old.items ++ ran (cell_said said.entry.net_text.now said.entry.net.now said.entry.rules_text.now said.entry.rules.now) orders.now) }
+    ensures built { Ok tt ≡ text_check orders.now → Ok tt ≡ monitor_answer (start_monitor (cell_said said.entry.net_text.now said.entry.net.now said.entry.rules_text.now said.entry.rules.now)) (cell_said said.entry.net_text.now said.entry.net.now said.entry.rules_text.now said.entry.rules.now).typed_fixed → BuiltCell (cell_said said.entry.net_text.now said.entry.net.now said.entry.rules_text.now said.entry.rules.now) }
 {
     match check_text(orders) {
         Ok(()) => run_checked(out, said, plant, orders),
@@ -87,9 +87,9 @@ fn run_plant<P: Plant + Drop>(
 
 // The orders on the plant that the net text tells of, by its kind.
 fn run_net(out: &mut Vec<u8>, said: Said, orders: &[u8]) -> Result<(), AllocError>
-    requires { Proper net-meaning (net-of said.net_text.now said.net.now) }
-    ensures printed { OnOk result (out.new.items ≡ out.old.items ++ ran (cell-said said.entry.net_text.now said.entry.net.now said.entry.rules_text.now said.entry.rules.now) orders.now) }
-    ensures built { Ok tt ≡ text-check orders.now → Ok tt ≡ monitor-answer (start-monitor (cell-said said.entry.net_text.now said.entry.net.now said.entry.rules_text.now said.entry.rules.now)) (cell-said said.entry.net_text.now said.entry.net.now said.entry.rules_text.now said.entry.rules.now).typed-fixed → BuiltCell (cell-said said.entry.net_text.now said.entry.net.now said.entry.rules_text.now said.entry.rules.now) }
+    requires { Proper net_meaning (net_of said.net_text.now said.net.now) }
+    ensures printed { OnOk result (out.new.items ≡ out.old.items ++ ran (cell_said said.entry.net_text.now said.entry.net.now said.entry.rules_text.now said.entry.rules.now) orders.now) }
+    ensures built { Ok tt ≡ text_check orders.now → Ok tt ≡ monitor_answer (start_monitor (cell_said said.entry.net_text.now said.entry.net.now said.entry.rules_text.now said.entry.rules.now)) (cell_said said.entry.net_text.now said.entry.net.now said.entry.rules_text.now said.entry.rules.now).typed_fixed → BuiltCell (cell_said said.entry.net_text.now said.entry.net.now said.entry.rules_text.now said.entry.rules.now) }
 {
     match said.net.kind {
         Kind::Net => match table::make::make(said.net) {
@@ -116,9 +116,9 @@ fn run_rules(
     rules_text: &[u8],
     orders: &[u8],
 ) -> Result<(), AllocError>
-    requires { Proper net-meaning (net-of net_text.now net.now) }
-    ensures printed { OnOk result (out.new.items ≡ out.old.items ++ by-rules (net-of net_text.now net.now) (read-rules (names (net-of net_text.now net.now)) (place-names (net-of net_text.now net.now)) rules_text.now) orders.now) }
-    ensures built { OnOk result ((y : RulesSaid) → read-rules (names (net-of net_text.now net.now)) (place-names (net-of net_text.now net.now)) rules_text.now ≡ Ok y → Started (cell-of (net-of net_text.now net.now) y) orders.now) }
+    requires { Proper net_meaning (net_of net_text.now net.now) }
+    ensures printed { OnOk result (out.new.items ≡ out.old.items ++ by_rules (net_of net_text.now net.now) (read_rules (names (net_of net_text.now net.now)) (place_names (net_of net_text.now net.now)) rules_text.now) orders.now) }
+    ensures built { OnOk result ((y : RulesSaid) → read_rules (names (net_of net_text.now net.now)) (place_names (net_of net_text.now net.now)) rules_text.now ≡ Ok y → Started (cell_of (net_of net_text.now net.now) y) orders.now) }
 {
     match read_rules(alloc, net, net_text, rules_text) {
         Ok(rules) => {
@@ -138,8 +138,8 @@ fn run_rules(
 // What the program prints for its net, its rules and its orders.
 pub fn panel(alloc: Global, net: &[u8], rules: &[u8], orders: &[u8]) -> Result<Vec<u8>, AllocError>
     ensures printed { IfOk result (λ v. v.items ≡ printed net.now rules.now orders.now) }
-    ensures proper { (x : NetSaid) (y : RulesSaid) → Proper net-meaning x → net.now ≡ written net-meaning x → Proper (rules-meaning (names x) (place-names x)) y → rules.now ≡ written (rules-meaning (names x) (place-names x)) y → IfOk result (λ v. v.items ≡ ran (cell-of x y) orders.now) }
-    ensures built { (x : NetSaid) (y : RulesSaid) → Proper net-meaning x → net.now ≡ written net-meaning x → Proper (rules-meaning (names x) (place-names x)) y → rules.now ≡ written (rules-meaning (names x) (place-names x)) y → IfOk result (λ v. Started (cell-of x y) orders.now) }
+    ensures proper { (x : NetSaid) (y : RulesSaid) → Proper net_meaning x → net.now ≡ written net_meaning x → Proper (rules_meaning (names x) (place_names x)) y → rules.now ≡ written (rules_meaning (names x) (place_names x)) y → IfOk result (λ v. v.items ≡ ran (cell_of x y) orders.now) }
+    ensures built { (x : NetSaid) (y : RulesSaid) → Proper net_meaning x → net.now ≡ written net_meaning x → Proper (rules_meaning (names x) (place_names x)) y → rules.now ≡ written (rules_meaning (names x) (place_names x)) y → IfOk result (λ v. Started (cell_of x y) orders.now) }
 {
     let mut out = Vec::new(alloc);
     match read_net(alloc, net) {

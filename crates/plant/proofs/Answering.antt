@@ -3,42 +3,42 @@ use Rattle.std.proofs.Common.{◌≡◌, ℕ, ◌+◌, ◌<◌, ◌≤◌, Bool,
 use Rattle.std.proofs.lemmas.Bool.{lt-ltb, ltb-true, ltb-false}
 use Rattle.model.specs.declared.refusal.Refusal.{Refusal}
 use Rattle.model.specs.Net.{Net}
-use Rattle.model.specs.Plant.{Answer, fault-of, fault-at, refuse-at, refuse-unless, ◌else-by◌, known, short-place, over-place, begin-answer}
+use Rattle.model.specs.Plant.{Answer, fault_of, fault_at, refuse_at, refuse_unless, ◌else_by◌, known, short_place, over_place, begin_answer}
 use Rattle.model.specs.declared.refusal.Refusal.TheVariants.{NoMove, Short, OverLimit}
 use Rattle.plant.proofs.Lowest.{none_passes}
 
 -- the move is there: the next check answers
-pub asked : (n : Net) (t : ℕ) (a : Answer) → t < n.moves → (known n t else-by a) ≡ a
-asked n t a l = ap (λ (b : Bool). refuse-unless b (fault-of NoMove t) else-by a) (lt-ltb t n.moves l)
+pub asked : (n : Net) (t : ℕ) (a : Answer) → t < n.moves → (known n t else_by a) ≡ a
+asked n t a l = ap (λ (b : Bool). refuse_unless b (fault_of NoMove t) else_by a) (lt-ltb t n.moves l)
 
 -- a fault at the lowest place, as the code makes it: l and r are the layer and the row that it read there
-pub refused-at : (n : Net) (why : Refusal) (t p l r : ℕ) (o : Option ℕ) → t < n.moves → o ≡ Some p → l ≡ n.layer p → r ≡ n.row p
-    → Err (record { refusal = why; transition = Some t; spot = Some (record { place = p; layer = l; row = r }) }) ≡ (known n t else-by refuse-at (fault-at n why t) o)
-refused-at n why t p l r o lt found e q =
+pub refused_at : (n : Net) (why : Refusal) (t p l r : ℕ) (o : Option ℕ) → t < n.moves → o ≡ Some p → l ≡ n.layer p → r ≡ n.row p
+    → Err (record { refusal = why; transition = Some t; spot = Some (record { place = p; layer = l; row = r }) }) ≡ (known n t else_by refuse_at (fault_at n why t) o)
+refused_at n why t p l r o lt found e q =
     (λ i. Err (record { refusal = why; transition = Some t; spot = Some (record { place = p; layer = e i; row = q i }) }))
-    ∙ sym (asked n t (refuse-at (fault-at n why t) o) lt ∙ ap (refuse-at (fault-at n why t)) found)
+    ∙ sym (asked n t (refuse_at (fault_at n why t) o) lt ∙ ap (refuse_at (fault_at n why t)) found)
 
 -- no such place
-pub passed : (n : Net) (why : Refusal) (t : ℕ) (o : Option ℕ) → t < n.moves → o ≡ None → Ok tt ≡ (known n t else-by refuse-at (fault-at n why t) o)
-passed n why t o lt none = sym (asked n t (refuse-at (fault-at n why t) o) lt ∙ ap (refuse-at (fault-at n why t)) none)
+pub passed : (n : Net) (why : Refusal) (t : ℕ) (o : Option ℕ) → t < n.moves → o ≡ None → Ok tt ≡ (known n t else_by refuse_at (fault_at n why t) o)
+passed n why t o lt none = sym (asked n t (refuse_at (fault_at n why t) o) lt ∙ ap (refuse_at (fault_at n why t)) none)
 
 -- ---- a call that is accepted
-accepts : (n : Net) (why : Refusal) (t : ℕ) (o : Option ℕ) → Ok tt ≡ (known n t else-by refuse-at (fault-at n why t) o) → (t < n.moves) × (o ≡ None)
+accepts : (n : Net) (why : Refusal) (t : ℕ) (o : Option ℕ) → Ok tt ≡ (known n t else_by refuse_at (fault_at n why t) o) → (t < n.moves) × (o ≡ None)
 accepts n why t o e = go (ltb t n.moves) refl o e
   where
-    go : (b : Bool) → ltb t n.moves ≡ b → (q : Option ℕ) → Ok tt ≡ (refuse-unless b (fault-of NoMove t) else-by refuse-at (fault-at n why t) q) → (t < n.moves) × (q ≡ None)
+    go : (b : Bool) → ltb t n.moves ≡ b → (q : Option ℕ) → Ok tt ≡ (refuse_unless b (fault_of NoMove t) else_by refuse_at (fault_at n why t) q) → (t < n.moves) × (q ≡ None)
     go true h None r = (ltb-true t n.moves h, refl)
     go true h (Some p) r = let z : ◌≡◌ {A = ℕ} 0 1 = cc in absurd (omega arith)
     go false h q r = let z : ◌≡◌ {A = ℕ} 0 1 = cc in absurd (omega arith)
 
 -- begin: no place is short
-pub begins : (n : Net) (free : ℕ → ℕ) (t : ℕ) → Ok tt ≡ begin-answer n free t → (t < n.moves) × ((p : ℕ) → p < n.places → n.take p t ≤ free p)
+pub begins : (n : Net) (free : ℕ → ℕ) (t : ℕ) → Ok tt ≡ begin_answer n free t → (t < n.moves) × ((p : ℕ) → p < n.places → n.take p t ≤ free p)
 begins n free t e =
-    let a = accepts n Short t (short-place n free t) e in
+    let a = accepts n Short t (short_place n free t) e in
     (a.0, λ p l. ltb-false (free p) (n.take p t) (none_passes (λ q. ltb (free q) (n.take q t)) 0 n.places a.1 p (omega arith) (omega arith)))
 
 -- finish and back: no place goes over its limit by what is added
-pub fits : (n : Net) (free more : ℕ → ℕ) (t : ℕ) → Ok tt ≡ (known n t else-by refuse-at (fault-at n OverLimit t) (over-place n free more)) → (t < n.moves) × ((p : ℕ) → p < n.places → free p + more p ≤ n.limit p)
+pub fits : (n : Net) (free more : ℕ → ℕ) (t : ℕ) → Ok tt ≡ (known n t else_by refuse_at (fault_at n OverLimit t) (over_place n free more)) → (t < n.moves) × ((p : ℕ) → p < n.places → free p + more p ≤ n.limit p)
 fits n free more t e =
-    let a = accepts n OverLimit t (over-place n free more) e in
+    let a = accepts n OverLimit t (over_place n free more) e in
     (a.0, λ p l. ltb-false (n.limit p) (free p + more p) (none_passes (λ q. ltb (n.limit q) (free q + more q)) 0 n.places a.1 p (omega arith) (omega arith)))

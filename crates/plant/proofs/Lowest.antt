@@ -17,11 +17,11 @@ module _ (f : ℕ → Bool) (n i : ℕ) (inv : Sought f n i) (lt : i < n) where
   pub found_here : f i ≡ true → lowest f 0 n ≡ Some i
   found_here e = here ∙ cond-true _ _ _ e
 
-  pub sought-on : f i ≡ false → Sought f n (i + 1)
-  sought-on e = sym (here ∙ cond-false _ _ _ e)
+  pub sought_on : f i ≡ false → Sought f n (i + 1)
+  sought_on e = sym (here ∙ cond-false _ _ _ e)
 
-pub sought-first : (f : ℕ → Bool) (n : ℕ) → Sought f n 0
-sought-first f n = ap (lowest f 0) (omega arith)
+pub sought_first : (f : ℕ → Bool) (n : ℕ) → Sought f n 0
+sought_first f n = ap (lowest f 0) (omega arith)
 
 pub found_nowhere : (f : ℕ → Bool) (n i : ℕ) → Sought f n i → n ≤ i → lowest f 0 n ≡ None
 found_nowhere f n i inv h = sym inv ∙ ap (lowest f i) (none n i h)

@@ -9,7 +9,7 @@ pub trait Net {
 
     // The ground places, which the net text names.
     fn ground(&self) -> usize
-        ensures { result ≡ (net self.now).ground-places };
+        ensures { result ≡ (net self.now).ground_places };
 
     // All places: the ground places, then the control places.
     fn places(&self) -> usize

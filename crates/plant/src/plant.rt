@@ -1,7 +1,7 @@
 // What moves: a net with tokens.
 ghost use Rattle.std.specs.Prelude.{◌≡◌, ℕ, ◌≤◌, if◌then◌else◌};
-ghost use Rattle.model.specs.Plant.{accepted, begin-answer, finish-answer, back-answer, begun, finished, gone-back};
-ghost use Rattle.model.specs.Layer.{Pile, pile-net, pile-free, pile-begun, pile-finished, pile-gone-back};
+ghost use Rattle.model.specs.Plant.{accepted, begin_answer, finish_answer, back_answer, begun, finished, gone_back};
+ghost use Rattle.model.specs.Layer.{Pile, pile_net, pile_free, pile_begun, pile_finished, pile_gone_back};
 
 use crate::net::Net;
 use model::fault::{Fault, Spot};
@@ -20,7 +20,7 @@ pub trait Plant: Net {
 
     // What `begin` would answer now.
     fn may_begin(&self, t: usize) -> Result<(), Fault>
-        ensures { result ≡ begin-answer (Self.Net.net self.now) (tokens self.now) t }
+        ensures { result ≡ begin_answer (Self.Net.net self.now) (tokens self.now) t }
     {
         if t >= self.moves() {
             return Err(Fault {
@@ -48,7 +48,7 @@ pub trait Plant: Net {
 
     // What `finish` would answer now.
     fn may_finish(&self, t: usize) -> Result<(), Fault>
-        ensures { result ≡ finish-answer (Self.Net.net self.now) (tokens self.now) t }
+        ensures { result ≡ finish_answer (Self.Net.net self.now) (tokens self.now) t }
     {
         if t >= self.moves() {
             return Err(Fault {
@@ -76,7 +76,7 @@ pub trait Plant: Net {
 
     // What `back` would answer now.
     fn may_back(&self, t: usize) -> Result<(), Fault>
-        ensures { result ≡ back-answer (Self.Net.net self.now) (tokens self.now) t }
+        ensures { result ≡ back_answer (Self.Net.net self.now) (tokens self.now) t }
     {
         if t >= self.moves() {
             return Err(Fault {
@@ -104,26 +104,26 @@ pub trait Plant: Net {
 
     // Takes the tokens of the move `t` from its places, or answers at which place they are short.
     fn begin(&mut self, t: usize) -> Result<(), Fault>
-        ensures answer { result ≡ begin-answer (Self.Net.net self.old) (tokens self.old) t }
+        ensures answer { result ≡ begin_answer (Self.Net.net self.old) (tokens self.old) t }
         ensures same { Self.Net.net self.new ≡ Self.Net.net self.old }
         ensures after { tokens self.new ≡ begun (Self.Net.net self.old) (tokens self.old) t }
-        ensures whole { pile self.new ≡ (if accepted result then pile-begun (pile self.old) t else pile self.old) };
+        ensures whole { pile self.new ≡ (if accepted result then pile_begun (pile self.old) t else pile self.old) };
 
     // Gives the tokens of the move `t` to its places, or answers which place would go over its limit.
     fn finish(&mut self, t: usize) -> Result<(), Fault>
-        ensures answer { result ≡ finish-answer (Self.Net.net self.old) (tokens self.old) t }
+        ensures answer { result ≡ finish_answer (Self.Net.net self.old) (tokens self.old) t }
         ensures same { Self.Net.net self.new ≡ Self.Net.net self.old }
         ensures after { tokens self.new ≡ finished (Self.Net.net self.old) (tokens self.old) t }
-        ensures whole { pile self.new ≡ (if accepted result then pile-finished (pile self.old) t else pile self.old) };
+        ensures whole { pile self.new ≡ (if accepted result then pile_finished (pile self.old) t else pile self.old) };
 
     // Gives back what `begin` of the move `t` takes, or answers which place would go over its limit.
     fn back(&mut self, t: usize) -> Result<(), Fault>
-        ensures answer { result ≡ back-answer (Self.Net.net self.old) (tokens self.old) t }
+        ensures answer { result ≡ back_answer (Self.Net.net self.old) (tokens self.old) t }
         ensures same { Self.Net.net self.new ≡ Self.Net.net self.old }
-        ensures after { tokens self.new ≡ gone-back (Self.Net.net self.old) (tokens self.old) t }
-        ensures whole { pile self.new ≡ (if accepted result then pile-gone-back (pile self.old) t else pile self.old) };
+        ensures after { tokens self.new ≡ gone_back (Self.Net.net self.old) (tokens self.old) t }
+        ensures whole { pile self.new ≡ (if accepted result then pile_gone_back (pile self.old) t else pile self.old) };
 
-    ghost stacked: { (s : Self) → (pile-net (pile s) ≡ Self.Net.net s) × (pile-free (pile s) ≡ tokens s) };
+    ghost stacked: { (s : Self) → (pile_net (pile s) ≡ Self.Net.net s) × (pile_free (pile s) ≡ tokens s) };
 
     ghost within: { (s : Self) (p : ℕ) → tokens s p ≤ (Self.Net.net s).limit p };
 }

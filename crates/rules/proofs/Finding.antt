@@ -7,7 +7,7 @@ use Rattle.model.specs.Net.{Net}
 use Rattle.model.specs.Plant.{lowest}
 use Rattle.model.specs.Rule.{Worked, raise}
 use Rattle.model.specs.Working.{rising, falls}
-use Rattle.rules.specs.Searching.{rising-at}
+use Rattle.rules.specs.Searching.{rising_at}
 
 module _ (n : Net) (w : Worked) (t : ℕ) (c : Bool) (told : c ≡ n.controllable t) where
   pub held : c ≡ true → rising n w t ≡ false
@@ -24,6 +24,6 @@ module _ (n : Net) (w : Worked) (t : ℕ) (c : Bool) (told : c ≡ n.controllabl
     pub stays : lt_z (pos 0) (to_z w32 (of_z w32 r)) ≡ false → rising n w t ≡ false
     stays k = and_right (not (n.controllable t)) (lt_z (pos 0) (raise n w.weight t)) (read false k)
 
-pub found : (n : Net) (w : Worked) (t : ℕ) (o : Option ℕ) → lowest (rising n w) 0 n.moves ≡ Some t → lowest (falls n t) 0 n.ground-places ≡ o
-    → Some (record { transition = t; absorber = o }) ≡ rising-at n (lowest (rising n w) 0 n.moves)
-found n w t o e k = (λ i. Some (record { transition = t; absorber = sym k i })) ∙ sym (ap (rising-at n) e)
+pub found : (n : Net) (w : Worked) (t : ℕ) (o : Option ℕ) → lowest (rising n w) 0 n.moves ≡ Some t → lowest (falls n t) 0 n.ground_places ≡ o
+    → Some (record { transition = t; absorber = o }) ≡ rising_at n (lowest (rising n w) 0 n.moves)
+found n w t o e k = (λ i. Some (record { transition = t; absorber = sym k i })) ∙ sym (ap (rising_at n) e)

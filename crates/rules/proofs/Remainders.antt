@@ -4,7 +4,7 @@ use Prim.Native.Nat.{◌∣◌}
 use native.Mathlib.Nat.{dvd-mul_right, dvd-mod_iff, dvd-zero, dvd_refl, pos_of_dvd_of_pos}
 use Rattle.model.specs.Working.{divisor}
 use Rattle.model.specs.Rounds.{Gcd}
-use Rattle.model.proofs.Rounds.{divisor-gcd, dvd-small}
+use Rattle.model.proofs.Rounds.{divisor_gcd, dvd_small}
 use Rattle.rules.specs.Divisors.{GreatestDivisor}
 
 -- x and y have the common divisors of a and e
@@ -21,22 +21,22 @@ same_next {a} {e} {x} {y} s = record {
   back = λ d h k. s.back d ((dvd-mod_iff d {m = x} {n = y} h).0 k) h;
 }
 
-pub greatest-last : {a e x y : ℕ} → SameDivisors a e x y → y ≡ 0 → GreatestDivisor a e x
-greatest-last {a} {e} {x} {y} s z =
+pub greatest_last : {a e x y : ℕ} → SameDivisors a e x y → y ≡ 0 → GreatestDivisor a e x
+greatest_last {a} {e} {x} {y} s z =
     let b = s.back x (dvd_refl x) (subst (λ (i : ℕ). x ∣ i) (sym z) (dvd-zero x)) in
-    record { of-a = b.0; of-e = b.1; most = λ d h k. (s.onward d h k).0 }
+    record { of_a = b.0; of_e = b.1; most = λ d h k. (s.onward d h k).0 }
 
-pub greatest-some : {a e h : ℕ} → 1 ≤ e → GreatestDivisor a e h → 1 ≤ h
-greatest-some l s = pos_of_dvd_of_pos s.of-e l
+pub greatest_some : {a e h : ℕ} → 1 ≤ e → GreatestDivisor a e h → 1 ≤ h
+greatest_some l s = pos_of_dvd_of_pos s.of_e l
 
 -- where e is some, it is the divisor that a round uses
-pub greatest-is : {a e h : ℕ} → 1 ≤ e → GreatestDivisor a e h → h ≡ divisor e a e
-greatest-is {a} {e} {h} l s =
+pub greatest_is : {a e h : ℕ} → 1 ≤ e → GreatestDivisor a e h → h ≡ divisor e a e
+greatest_is {a} {e} {h} l s =
     let k : ℕ = divisor e a e in
-    let g : Gcd a e k = divisor-gcd a e l in
-    let of-a : k ∣ a = subst (λ (i : ℕ). k ∣ i) g.of-a (dvd-mul_right k (a / k)) in
-    let of-e : k ∣ e = subst (λ (i : ℕ). k ∣ i) g.of-e (dvd-mul_right k (e / k)) in
-    same h k (g.most h s.of-a s.of-e) (dvd-small k h (greatest-some l s) (s.most k of-a of-e))
+    let g : Gcd a e k = divisor_gcd a e l in
+    let of_a : k ∣ a = subst (λ (i : ℕ). k ∣ i) g.of_a (dvd-mul_right k (a / k)) in
+    let of_e : k ∣ e = subst (λ (i : ℕ). k ∣ i) g.of_e (dvd-mul_right k (e / k)) in
+    same h k (g.most h s.of_a s.of_e) (dvd_small k h (greatest_some l s) (s.most k of_a of_e))
   where
     same : (a b : ℕ) → a ≤ b → b ≤ a → a ≡ b
     same a b h k = omega arith

@@ -4,6 +4,6 @@ use Rattle.std.specs.Prelude.{ℕ}
 use Rattle.std.specs.Int.{◌∣◌}
 
 pub record GreatestDivisor (a e h : ℕ) : Type 0 where
-  pub of-a : h ∣ a
-  pub of-e : h ∣ e
+  pub of_a : h ∣ a
+  pub of_e : h ∣ e
   pub most : (d : ℕ) → d ∣ a → d ∣ e → d ∣ h

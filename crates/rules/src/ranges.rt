@@ -1,8 +1,8 @@
 // Whether the numbers of a rule are small enough, and which rules can be typed.
 ghost use Rattle.std.specs.Prelude.{◌≡◌, pos, slice_index_or};
-ghost use Rattle.model.specs.Rule.{in-range};
-ghost use Rattle.model.specs.Working.{ground-only, is-typed};
-ghost use Rattle.rules.specs.Rules.{rule-of};
+ghost use Rattle.model.specs.Rule.{in_range};
+ghost use Rattle.model.specs.Working.{ground_only, is_typed};
+ghost use Rattle.rules.specs.Rules.{rule_of};
 
 use crate::typed::TypedRule;
 use model::sizes::{MOST_BOUND, MOST_PLACES, MOST_WEIGHT};
@@ -16,7 +16,7 @@ pub(crate) fn in_range<N: Net>(
     largest_weight: u32,
     largest_bound: u32,
 ) -> bool
-    ensures { result ≡ in-range largest_weight largest_bound (N.Net.net net.now) (λ p. slice_index_or weights.now p (pos 0)) bound }
+    ensures { result ≡ in_range largest_weight largest_bound (N.Net.net net.now) (λ p. slice_index_or weights.now p (pos 0)) bound }
 {
     'places: for p in 0..net.ground() {
         if weights[p].unsigned_abs() > largest_weight {
@@ -29,7 +29,7 @@ pub(crate) fn in_range<N: Net>(
 impl TypedRule {
     // Whether no place beyond the ground places has a weight.
     fn is_on_ground<N: Net>(&self, net: &N) -> bool
-        ensures { result ≡ ground-only (N.Net.net net.now) (rule-of self.now) }
+        ensures { result ≡ ground_only (N.Net.net net.now) (rule_of self.now) }
     {
         'places: for p in net.ground()..MOST_PLACES {
             if self.weights[p] != 0 {
@@ -41,7 +41,7 @@ impl TypedRule {
 
     // Whether the rule is one that can be typed over the net: small weights, on ground places only, and a small bound.
     pub(crate) fn can_be_typed<N: Net>(&self, net: &N) -> bool
-        ensures { result ≡ is-typed (N.Net.net net.now) (rule-of self.now) }
+        ensures { result ≡ is_typed (N.Net.net net.now) (rule_of self.now) }
     {
         let small = in_range(
             net,

@@ -1,8 +1,8 @@
 // One round of working: the rule after it.
 ghost use Rattle.std.specs.Prelude.{◌≡◌, ℕ, ◌≤◌, pos, ◌+ℤ◌, ◌-ℤ◌, ◌*ℤ◌, if◌then◌else◌, nat_eq, slice_index_or, unsigned_abs};
-ghost use Rattle.model.specs.Sizes.{most-arc};
-ghost use Rattle.rules.specs.Rules.{worked-of, answer-of};
-ghost use Rattle.rules.specs.Rounding.{absorption-of, after-round, Modest, RoundAt};
+ghost use Rattle.model.specs.Sizes.{most_arc};
+ghost use Rattle.rules.specs.Rules.{worked_of, answer_of};
+ghost use Rattle.rules.specs.Rounding.{absorption_of, after_round, Modest, RoundAt};
 
 use crate::fault::fault;
 use crate::gcd::gcd;
@@ -25,8 +25,8 @@ pub struct Absorption {
 impl WorkedRule {
     // The round for the move `t`, which raises the rule, and the place `p`, of which it takes more than it gives.
     fn absorption<N: Net>(&self, net: &N, t: usize, p: usize) -> Absorption
-        requires { RoundAt (N.Net.net net.now) (worked-of self.now) t p }
-        ensures value { result ≡ absorption-of (N.Net.net net.now) (worked-of self.now) t p }
+        requires { RoundAt (N.Net.net net.now) (worked_of self.now) t p }
+        ensures value { result ≡ absorption_of (N.Net.net net.now) (worked_of self.now) t p }
         ensures modest { Modest result }
     {
         let raise = self.raise(net, t) as u32;
@@ -41,8 +41,8 @@ impl WorkedRule {
 
     // Every weight times the factor.
     fn scaled(&self, factor: i32) -> [i32; MOST_PLACES]
-        requires { unsigned_abs factor ≤ most-arc }
-        ensures { (p : ℕ) → slice_index_or result p (pos 0) ≡ factor *ℤ (worked-of self.now).weight p }
+        requires { unsigned_abs factor ≤ most_arc }
+        ensures { (p : ℕ) → slice_index_or result p (pos 0) ≡ factor *ℤ (worked_of self.now).weight p }
     {
         let mut weights = [0; MOST_PLACES];
         'places: for p in 0..MOST_PLACES {
@@ -54,7 +54,7 @@ impl WorkedRule {
     // The weights after the round.
     fn absorbed_weights(&self, absorption: Absorption) -> [i32; MOST_PLACES]
         requires { Modest absorption }
-        ensures { (p : ℕ) → slice_index_or result p (pos 0) ≡ absorption.factor *ℤ (worked-of self.now).weight p +ℤ (if nat_eq p absorption.place then absorption.addend else pos 0) }
+        ensures { (p : ℕ) → slice_index_or result p (pos 0) ≡ absorption.factor *ℤ (worked_of self.now).weight p +ℤ (if nat_eq p absorption.place then absorption.addend else pos 0) }
     {
         let mut weights = self.scaled(absorption.factor);
         weights[absorption.place] += absorption.addend;
@@ -64,7 +64,7 @@ impl WorkedRule {
     // The bound after the round.
     fn absorbed_bound(&self, absorption: Absorption) -> i32
         requires { Modest absorption }
-        ensures { result ≡ absorption.factor *ℤ ((worked-of self.now).bound +ℤ pos 1) -ℤ pos 1 }
+        ensures { result ≡ absorption.factor *ℤ ((worked_of self.now).bound +ℤ pos 1) -ℤ pos 1 }
     {
         product(absorption.factor, self.bound + 1) - 1
     }
@@ -76,8 +76,8 @@ impl WorkedRule {
         t: usize,
         p: usize,
     ) -> Result<WorkedRule, Fault>
-        requires { RoundAt (N.Net.net net.now) (worked-of self.now) t p }
-        ensures { answer-of result ≡ after-round (N.Net.net net.now) (worked-of self.now) t p }
+        requires { RoundAt (N.Net.net net.now) (worked_of self.now) t p }
+        ensures { answer_of result ≡ after_round (N.Net.net net.now) (worked_of self.now) t p }
     {
         let absorption = self.absorption(net, t, p);
         let weights = self.absorbed_weights(absorption);

@@ -1,7 +1,7 @@
 // The search for what a round changes.
 ghost use Rattle.std.specs.Prelude.{◌≡◌};
-ghost use Rattle.rules.specs.Rules.{worked-of};
-ghost use Rattle.rules.specs.Searching.{round-search};
+ghost use Rattle.rules.specs.Rules.{worked_of};
+ghost use Rattle.rules.specs.Searching.{round_search};
 
 use crate::worked::WorkedRule;
 use plant::net::Net;
@@ -16,7 +16,7 @@ pub struct Rising {
 impl WorkedRule {
     // The lowest uncontrollable move that raises the rule, with the lowest place that can absorb it.
     pub(crate) fn rising<N: Net>(&self, net: &N) -> Option<Rising>
-        ensures { result ≡ round-search (N.Net.net net.now) (worked-of self.now) }
+        ensures { result ≡ round_search (N.Net.net net.now) (worked_of self.now) }
     {
         let found = 'search: {
             'moves: for t in 0..net.moves() {

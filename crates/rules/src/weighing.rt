@@ -1,9 +1,9 @@
 // What a worked rule tells: its numbers, by how much a move raises it, and how much a plant's tokens leave of its bound.
 ghost use Rattle.std.specs.Prelude.{◌≡◌, ◌*◌, ◌<◌, ◌≤◌, ◌-ℤ◌, unsigned_abs};
-ghost use Rattle.model.specs.Sizes.{most-places, most-arc, most-limit, most-worked-weight};
-ghost use Rattle.model.specs.Net.{incidence as incidence-of};
-ghost use Rattle.model.specs.Rule.{raise as raise-of, weighted-free};
-ghost use Rattle.rules.specs.Rules.{worked-of};
+ghost use Rattle.model.specs.Sizes.{most_places, most_arc, most_limit, most_worked_weight};
+ghost use Rattle.model.specs.Net.{incidence as incidence_of};
+ghost use Rattle.model.specs.Rule.{raise as raise_of, weighted_free};
+ghost use Rattle.rules.specs.Rules.{worked_of};
 
 use crate::product::product;
 use crate::worked::WorkedRule;
@@ -13,9 +13,9 @@ use plant::plant::Plant;
 
 // What the move `t` gives to the ground place `p`, less what it takes.
 fn incidence<N: Net>(net: &N, p: usize, t: usize) -> i32
-    requires { p < (N.Net.net net.now).ground-places }
-    ensures value { result ≡ incidence-of (N.Net.net net.now) p t }
-    ensures small { unsigned_abs result ≤ most-arc }
+    requires { p < (N.Net.net net.now).ground_places }
+    ensures value { result ≡ incidence_of (N.Net.net net.now) p t }
+    ensures small { unsigned_abs result ≤ most_arc }
 {
     net.give(p, t) as i32 - net.take(p, t) as i32
 }
@@ -23,27 +23,27 @@ fn incidence<N: Net>(net: &N, p: usize, t: usize) -> i32
 impl WorkedRule {
     // The weight of the place `p`.
     pub fn weight(&self, p: usize) -> i32
-        ensures { result ≡ (worked-of self.now).weight p }
+        ensures { result ≡ (worked_of self.now).weight p }
     {
         if p < MOST_PLACES { self.weights[p] } else { 0 }
     }
 
     pub fn bound(&self) -> i32
-        ensures { result ≡ (worked-of self.now).bound }
+        ensures { result ≡ (worked_of self.now).bound }
     {
         self.bound
     }
 
     // How many rounds changed the rule.
     pub fn rounds(&self) -> u32
-        ensures { result ≡ (worked-of self.now).rounds }
+        ensures { result ≡ (worked_of self.now).rounds }
     {
         self.rounds
     }
 
     // By how much the move `t` raises the weighted sum of the tokens.
     pub fn raise<N: Net>(&self, net: &N, t: usize) -> i32
-        ensures { result ≡ raise-of (N.Net.net net.now) (worked-of self.now).weight t }
+        ensures { result ≡ raise_of (N.Net.net net.now) (worked_of self.now).weight t }
     {
         let mut sum = 0;
         'places: for p in 0..net.ground() {
@@ -54,8 +54,8 @@ impl WorkedRule {
 
     // The weighted sum of the tokens now in the plant.
     fn weighted<P: Plant>(&self, plant: &P) -> i32
-        ensures small { unsigned_abs result ≤ most-places * (most-worked-weight * most-limit) }
-        ensures value { result ≡ weighted-free (P.Net.net plant.now) (worked-of self.now).weight (P.Plant.tokens plant.now) }
+        ensures small { unsigned_abs result ≤ most_places * (most_worked_weight * most_limit) }
+        ensures value { result ≡ weighted_free (P.Net.net plant.now) (worked_of self.now).weight (P.Plant.tokens plant.now) }
     {
         let mut sum = 0;
         'places: for p in 0..plant.ground() {
@@ -66,7 +66,7 @@ impl WorkedRule {
 
     // How far the weighted sum of the tokens now in the plant is below the bound; negative where it is above.
     pub fn spare<P: Plant>(&self, plant: &P) -> i32
-        ensures { result ≡ (worked-of self.now).bound -ℤ weighted-free (P.Net.net plant.now) (worked-of self.now).weight (P.Plant.tokens plant.now) }
+        ensures { result ≡ (worked_of self.now).bound -ℤ weighted_free (P.Net.net plant.now) (worked_of self.now).weight (P.Plant.tokens plant.now) }
     {
         self.bound - self.weighted(plant)
     }

@@ -1,7 +1,7 @@
 // Working a typed rule into one that no uncontrollable move raises.
 ghost use Rattle.std.specs.Prelude.{◌≡◌};
-ghost use Rattle.rules.specs.Rules.{rule-of, answer-of, Works};
-ghost use Rattle.rules.specs.Rounding.{OnGround, before-rounds};
+ghost use Rattle.rules.specs.Rules.{rule_of, answer_of, Works};
+ghost use Rattle.rules.specs.Rounding.{OnGround, before_rounds};
 
 use crate::fault::fault;
 use crate::typed::TypedRule;
@@ -14,8 +14,8 @@ use plant::net::Net;
 impl TypedRule {
     // The rule before its first round, or 25 where it cannot be typed.
     fn before_rounds<N: Net>(&self, net: &N) -> Result<WorkedRule, Fault>
-        ensures answer { answer-of result ≡ before-rounds (N.Net.net net.now) (rule-of self.now) }
-        ensures by_ground { OnGround (N.Net.net net.now) (answer-of result) }
+        ensures answer { answer_of result ≡ before_rounds (N.Net.net net.now) (rule_of self.now) }
+        ensures by_ground { OnGround (N.Net.net net.now) (answer_of result) }
     {
         if !self.can_be_typed(net) {
             return Err(fault(Refusal::NotTyped));
@@ -30,7 +30,7 @@ impl TypedRule {
 
 // The rule that the typed one is worked to over the net, or why there is none: 25, 20, 21 or 22.
 pub fn work<N: Net>(net: &N, typed: &TypedRule) -> Result<WorkedRule, Fault>
-    ensures { Works (N.Net.net net.now) (rule-of typed.now) (answer-of result) }
+    ensures { Works (N.Net.net net.now) (rule_of typed.now) (answer_of result) }
 {
     let mut rule = typed.before_rounds(net)?;
     'rounds: for _ in 0..MOST_ROUNDS {

@@ -1,6 +1,6 @@
 // A worked rule, and what no value of it is without.
 ghost use Rattle.std.specs.Prelude.{ℕ, ◌≤◌, pos, slice_index_or, unsigned_abs};
-ghost use Rattle.model.specs.Sizes.{most-worked-weight, most-worked-bound, most-rounds};
+ghost use Rattle.model.specs.Sizes.{most_worked_weight, most_worked_bound, most_rounds};
 
 use model::sizes::MOST_PLACES;
 
@@ -10,7 +10,7 @@ pub struct WorkedRule {
     pub(crate) weights: [i32; MOST_PLACES],
     pub(crate) bound: i32,
     pub(crate) rounds: u32,
-    ghost small_weights: { (p : ℕ) → unsigned_abs (slice_index_or weights p (pos 0)) ≤ most-worked-weight },
-    ghost small_bound: { unsigned_abs bound ≤ most-worked-bound },
-    ghost few_rounds: { rounds ≤ most-rounds },
+    ghost small_weights: { (p : ℕ) → unsigned_abs (slice_index_or weights p (pos 0)) ≤ most_worked_weight },
+    ghost small_bound: { unsigned_abs bound ≤ most_worked_bound },
+    ghost few_rounds: { rounds ≤ most_rounds },
 }

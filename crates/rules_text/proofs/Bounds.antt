@@ -5,36 +5,36 @@ use lib.Signed.{le_z}
 use Rattle.std.proofs.lemmas.List.{take_rest}
 use Rattle.std.proofs.lemmas.Bool.{cond-true, eq-eqb, ne_eqb, and_from}
 use Rattle.std.proofs.lemmas.Int.{to_z_pos}
-use Rattle.formats.specs.Words.{is-numeral, value}
-use Rattle.formats.proofs.Tests.{d-numeral, numeral-is}
+use Rattle.formats.specs.Words.{is_numeral, value}
+use Rattle.formats.proofs.Tests.{d_numeral, numeral_is}
 use Rattle.rules_text.specs.Reading.{whole_said, bound_said}
 
-pub whole-small : (f : List ℕ) (n : ℕ) → Some n ≡ cond (is-numeral 6 f) (Some (value f)) None → n < 1000000
-whole-small f n e = go (is-numeral 6 f) refl e
+pub whole_small : (f : List ℕ) (n : ℕ) → Some n ≡ cond (is_numeral 6 f) (Some (value f)) None → n < 1000000
+whole_small f n e = go (is_numeral 6 f) refl e
   where
-    go : (t : Bool) → is-numeral 6 f ≡ t → Some n ≡ cond t (Some (value f)) None → n < 1000000
+    go : (t : Bool) → is_numeral 6 f ≡ t → Some n ≡ cond t (Some (value f)) None → n < 1000000
     go true q h =
         let same : n ≡ value f = cc in
-        let w = numeral-is 6 f (omega arith) ((d-numeral 6 f (omega arith) (omega arith)).0 q) in
+        let w = numeral_is 6 f (omega arith) ((d_numeral 6 f (omega arith) (omega arith)).0 q) in
         omega (arith, w.0)
     go false q h = let z : ◌≡◌ {A = ℕ} 0 1 = cc in absurd (omega arith)
 
-pub plain-bound : (f : List ℕ) → (get_or f 0 0 ≡ 45 → ⊥) → bound_said f ≡ whole_said f
-plain-bound [] n = refl
-plain-bound (c ∷ cs) n = ap (λ (t : Bool). cond (cond t (is-numeral 6 cs && leb 1 (value cs)) (is-numeral 6 (c ∷ cs))) (Some (cond t (neg_ℤ (pos (value cs))) (pos (value (c ∷ cs))))) None) (ne_eqb c 45 n)
+pub plain_bound : (f : List ℕ) → (get_or f 0 0 ≡ 45 → ⊥) → bound_said f ≡ whole_said f
+plain_bound [] n = refl
+plain_bound (c ∷ cs) n = ap (λ (t : Bool). cond (cond t (is_numeral 6 cs && leb 1 (value cs)) (is_numeral 6 (c ∷ cs))) (Some (cond t (neg_ℤ (pos (value cs))) (pos (value (c ∷ cs))))) None) (ne_eqb c 45 n)
 
-pub minus-bound : (f : List ℕ) → get_or f 0 0 ≡ 45
-    → bound_said f ≡ cond (is-numeral 6 (take (length f - 1) (drop 1 f)) && leb 1 (value (take (length f - 1) (drop 1 f)))) (Some (neg_ℤ (pos (value (take (length f - 1) (drop 1 f)))))) None
-minus-bound [] e = absurd (omega arith)
-minus-bound (c ∷ cs) e =
-    ap (λ (t : Bool). cond (cond t (is-numeral 6 cs && leb 1 (value cs)) (is-numeral 6 (c ∷ cs))) (Some (cond t (neg_ℤ (pos (value cs))) (pos (value (c ∷ cs))))) None) (eq-eqb c 45 e)
-    ∙ ap (λ (d : List ℕ). cond (is-numeral 6 d && leb 1 (value d)) (Some (neg_ℤ (pos (value d)))) None) (sym (take_rest (c ∷ cs) 1))
+pub minus_bound : (f : List ℕ) → get_or f 0 0 ≡ 45
+    → bound_said f ≡ cond (is_numeral 6 (take (length f - 1) (drop 1 f)) && leb 1 (value (take (length f - 1) (drop 1 f)))) (Some (neg_ℤ (pos (value (take (length f - 1) (drop 1 f)))))) None
+minus_bound [] e = absurd (omega arith)
+minus_bound (c ∷ cs) e =
+    ap (λ (t : Bool). cond (cond t (is_numeral 6 cs && leb 1 (value cs)) (is_numeral 6 (c ∷ cs))) (Some (cond t (neg_ℤ (pos (value cs))) (pos (value (c ∷ cs))))) None) (eq-eqb c 45 e)
+    ∙ ap (λ (d : List ℕ). cond (is_numeral 6 d && leb 1 (value d)) (Some (neg_ℤ (pos (value d)))) None) (sym (take_rest (c ∷ cs) 1))
 
-pub whole-fine : (f : List ℕ) (n : ℕ) → Some n ≡ cond (is-numeral 6 f) (Some (value f)) None → Some (to_z w32 n) ≡ whole_said f
-whole-fine f n e = go (is-numeral 6 f) refl e
+pub whole_fine : (f : List ℕ) (n : ℕ) → Some n ≡ cond (is_numeral 6 f) (Some (value f)) None → Some (to_z w32 n) ≡ whole_said f
+whole_fine f n e = go (is_numeral 6 f) refl e
   where
-    go : (t : Bool) → is-numeral 6 f ≡ t → Some n ≡ cond t (Some (value f)) None → Some (to_z w32 n) ≡ cond t (Some (pos (value f))) None
-    go true q h = let same : n ≡ value f = cc in let l = whole-small f n e in ap (λ (z : ℤ). Some z) (to_z_pos w32 n (omega arith) ∙ ap pos same)
+    go : (t : Bool) → is_numeral 6 f ≡ t → Some n ≡ cond t (Some (value f)) None → Some (to_z w32 n) ≡ cond t (Some (pos (value f))) None
+    go true q h = let same : n ≡ value f = cc in let l = whole_small f n e in ap (λ (z : ℤ). Some z) (to_z_pos w32 n (omega arith) ∙ ap pos same)
     go false q h = let z : ◌≡◌ {A = ℕ} 0 1 = cc in absurd (omega arith)
 
 negative : (n : ℕ) → n < 1000000 → to_z w32 (of_z w32 (pos 0 -ℤ to_z w32 (of_z w32 (pos n)))) ≡ neg_ℤ (pos n)
@@ -43,18 +43,18 @@ negative n h = omega (arith, ints)
 at_least_one : (n : ℕ) → n < 1000000 → le_z (pos 1) (to_z w32 (of_z w32 (pos n))) ≡ true → leb 1 n ≡ true
 at_least_one n h e = ap (le_z (pos 1)) (sym (to_z_pos w32 n (omega arith))) ∙ e
 
-pub minus-said : (f : List ℕ) (z : ℤ) → get_or f 0 0 ≡ 45 → Some z ≡ whole_said (take (length f - 1) (drop 1 f)) → z <ℤ pos 1000000 → le_z (pos 1) (to_z w32 (of_z w32 z)) ≡ true
+pub minus_said : (f : List ℕ) (z : ℤ) → get_or f 0 0 ≡ 45 → Some z ≡ whole_said (take (length f - 1) (drop 1 f)) → z <ℤ pos 1000000 → le_z (pos 1) (to_z w32 (of_z w32 z)) ≡ true
     → Some (to_z w32 (of_z w32 (pos 0 -ℤ to_z w32 (of_z w32 z)))) ≡ bound_said f
-minus-said f z e w small one = go (is-numeral 6 ds) refl w ∙ sym (minus-bound f e)
+minus_said f z e w small one = go (is_numeral 6 ds) refl w ∙ sym (minus_bound f e)
   where
     ds : List ℕ
     ds = take (length f - 1) (drop 1 f)
 
-    go : (t : Bool) → is-numeral 6 ds ≡ t → Some z ≡ cond t (Some (pos (value ds))) None → Some (to_z w32 (of_z w32 (pos 0 -ℤ to_z w32 (of_z w32 z)))) ≡ cond (is-numeral 6 ds && leb 1 (value ds)) (Some (neg_ℤ (pos (value ds)))) None
+    go : (t : Bool) → is_numeral 6 ds ≡ t → Some z ≡ cond t (Some (pos (value ds))) None → Some (to_z w32 (of_z w32 (pos 0 -ℤ to_z w32 (of_z w32 z)))) ≡ cond (is_numeral 6 ds && leb 1 (value ds)) (Some (neg_ℤ (pos (value ds)))) None
     go true q r =
         let n = value ds in
         let same : z ≡ pos n = cc in
         let few : n < 1000000 = omega (arith, ints) in
         ap (λ (y : ℤ). Some (to_z w32 (of_z w32 (pos 0 -ℤ to_z w32 (of_z w32 y))))) same ∙ ap (λ (y : ℤ). Some y) (negative n few)
-        ∙ sym (cond-true _ _ _ (and_from (is-numeral 6 ds) (leb 1 n) q (at_least_one n few (ap (λ (y : ℤ). le_z (pos 1) (to_z w32 (of_z w32 y))) (sym same) ∙ one))))
+        ∙ sym (cond-true _ _ _ (and_from (is_numeral 6 ds) (leb 1 n) q (at_least_one n few (ap (λ (y : ℤ). le_z (pos 1) (to_z w32 (of_z w32 y))) (sym same) ∙ one))))
     go false q r = let n : ◌≡◌ {A = ℕ} 0 1 = cc in absurd (omega arith)

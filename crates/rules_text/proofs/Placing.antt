@@ -2,33 +2,33 @@
 use Rattle.std.proofs.Common.{◌≡◌, ℕ, ◌+◌, ◌-◌, ◌<◌, ◌≤◌, List, [], ◌∷◌, ◌++◌, length, take, drop, vec_items, sym, ap, ◌∙◌, append_assoc, arith}
 use Rattle.std.specs.List.{prefix_len}
 use Rattle.std.proofs.lemmas.List.{length-append, length-take-le, length-drop, take_at}
-use Rattle.formats.specs.Words.{is-not, lines, unlines}
+use Rattle.formats.specs.Words.{is_not, lines, unlines}
 use Rattle.formats.proofs.Bridges.{lines_at}
-use Rattle.formats.proofs.Pieces.{unlines-append}
-use Rattle.texts.specs.Spans.{line-start}
+use Rattle.formats.proofs.Pieces.{unlines_append}
+use Rattle.texts.specs.Spans.{line_start}
 use Rattle.rules_text.specs.declared.rule.RulesText.{RulesText}
 use Rattle.rules_text.specs.Reading.{Placed, Locates}
 
-pub placed-next : (bs : List ℕ) (n n' : RulesText) (s e : ℕ) → e ≡ s + prefix_len (is-not 10) (drop s bs) → s ≤ e → e < length bs → Placed bs n s → Locates bs n n' s → Placed bs n' (e + 1)
-placed-next bs n n' s e end le lt p more =
+pub placed_next : (bs : List ℕ) (n n' : RulesText) (s e : ℕ) → e ≡ s + prefix_len (is_not 10) (drop s bs) → s ≤ e → e < length bs → Placed bs n s → Locates bs n n' s → Placed bs n' (e + 1)
+placed_next bs n n' s e end le lt p more =
     let front = p.1.0 in
     let count = length (vec_items n.others) + 1 in
     let line = take (e - s) (drop s bs) in
     let size : length line ≡ e - s = length-take-le (e - s) (drop s bs) (omega (arith, length-drop s bs)) in
-    let start : line-start bs count ≡ s = ap (λ (z : List (List ℕ)). length (unlines (take count z))) p.1.1 ∙ ap (λ (z : List (List ℕ)). length (unlines z)) (take_at front (lines (drop s bs)) count p.1.2) ∙ p.1.3 in
+    let start : line_start bs count ≡ s = ap (λ (z : List (List ℕ)). length (unlines (take count z))) p.1.1 ∙ ap (λ (z : List (List ℕ)). length (unlines z)) (take_at front (lines (drop s bs)) count p.1.2) ∙ p.1.3 in
     let grown = more p.0 start in (
       grown.0,
       (
         front ++ (line ∷ []),
         p.1.1 ∙ ap (λ (z : List (List ℕ)). front ++ z) (lines_at bs s e end lt) ∙ sym (append_assoc front (line ∷ []) (lines (drop (e + 1) bs))),
         omega (arith, length-append front (line ∷ []), grown.1, p.1.2),
-        ap length (unlines-append front (line ∷ [])) ∙ length-append (unlines front) (line ++ (10 ∷ [])) ∙ omega (arith, length-append line (10 ∷ []), p.1.3),
+        ap length (unlines_append front (line ∷ [])) ∙ length-append (unlines front) (line ++ (10 ∷ [])) ∙ omega (arith, length-append line (10 ∷ []), p.1.3),
       ),
     )
 
 -- no line but the first, which ends at e, is read yet
-pub first-placed : (bs : List ℕ) (n : RulesText) (e : ℕ) → e ≡ 0 + prefix_len (is-not 10) (drop 0 bs) → e < length bs → vec_items n.others ≡ [] → n.fixed.name.start ≡ 6 → Placed bs n (e + 1)
-first-placed bs n e end lt none named =
+pub first_placed : (bs : List ℕ) (n : RulesText) (e : ℕ) → e ≡ 0 + prefix_len (is_not 10) (drop 0 bs) → e < length bs → vec_items n.others ≡ [] → n.fixed.name.start ≡ 6 → Placed bs n (e + 1)
+first_placed bs n e end lt none named =
     let line = take (e - 0) (drop 0 bs) in
     let size : length line ≡ e - 0 = length-take-le (e - 0) (drop 0 bs) (omega arith) in
     let count : length (vec_items n.others) ≡ 0 = ap length none in (

@@ -3,57 +3,57 @@ use Rattle.std.proofs.Common.{◌≡◌, ℕ, ◌+◌, true, List, [], ◌∷◌
 use Rattle.std.proofs.lemmas.Bool.{cond-true}
 use Rattle.model.specs.declared.refusal.Refusal.TheVariants.{Field}
 use Rattle.formats.specs.declared.fault.TextFault.{TextFault}
-use Rattle.formats.specs.Words.{is_name, is-new}
-use Rattle.formats.specs.Texts.{Check, check, first-failed, unless}
-use Rattle.formats.specs.Sums.{lead-length, terms, sum-checks}
-use Rattle.formats.specs.NetText.{place-names}
-use Rattle.formats.specs.RulesText.{is_bound, bound_of, line-checks}
+use Rattle.formats.specs.Words.{is_name, is_new}
+use Rattle.formats.specs.Texts.{Check, check, first_failed, unless}
+use Rattle.formats.specs.Sums.{lead_length, terms, sum_checks}
+use Rattle.formats.specs.NetText.{place_names}
+use Rattle.formats.specs.RulesText.{is_bound, bound_of, line_checks}
 use Rattle.net_text.specs.declared.net.Place.{Place}
 use Rattle.net_text.specs.declared.net.NetText.{NetText}
-use Rattle.net_text.specs.Nets.{net-of}
+use Rattle.net_text.specs.Nets.{net_of}
 use Rattle.net_text.proofs.Names.{places_of}
 use Rattle.texts.specs.Spans.{checked}
-use Rattle.texts.proofs.Checking.{stops, goes, then-stops}
+use Rattle.texts.proofs.Checking.{stops, goes, then_stops}
 use Rattle.rules_text.specs.Sums.{titles, SumRead}
 
 -- the names of the places, as the code has the places
-pub place-titles_are : (bs : List ℕ) (x : NetText) (ps : List Place) → ps ≡ vec_items x.places → titles bs ps ≡ place-names (net-of bs x)
-place-titles_are bs x ps e = ap (titles bs) e ∙ sym (places_of bs x)
+pub place_titles_are : (bs : List ℕ) (x : NetText) (ps : List Place) → ps ≡ vec_items x.places → titles bs ps ≡ place_names (net_of bs x)
+place_titles_are bs x ps e = ap (titles bs) e ∙ sym (places_of bs x)
 
-pub sum-read_by : {ps qs : List (List ℕ)} → ps ≡ qs → (k at : ℕ) (f : List ℕ) (r : Result (List ℤ) TextFault) → SumRead ps k at f r → SumRead qs k at f r
-sum-read_by e k at f r h = subst (λ (ns : List (List ℕ)). SumRead ns k at f r) e h
+pub sum_read_by : {ps qs : List (List ℕ)} → ps ≡ qs → (k at : ℕ) (f : List ℕ) (r : Result (List ℤ) TextFault) → SumRead ps k at f r → SumRead qs k at f r
+sum_read_by e k at f r h = subst (λ (ns : List (List ℕ)). SumRead ns k at f r) e h
 
 module _ (used ps : List (List ℕ)) (at k : ℕ) (n s b : List ℕ) where
-  abbrev of-sum : List Check
-  of-sum = sum-checks ps (at + length n + 1 + lead-length s) [] (terms s)
+  abbrev of_sum : List Check
+  of_sum = sum_checks ps (at + length n + 1 + lead_length s) [] (terms s)
 
-  abbrev of-bound : List Check
-  of-bound = check (is_bound b) Field (at + length n + 1 + length s + 1) ∷ []
+  abbrev of_bound : List Check
+  of_bound = check (is_bound b) Field (at + length n + 1 + length s + 1) ∷ []
 
   abbrev answer : Result (Unit {0}) TextFault
-  answer = checked (line-checks used ps at n s b) k tt
+  answer = checked (line_checks used ps at n s b) k tt
 
   abbrev fine : Result (Unit {0}) TextFault
   fine = Ok tt
 
-  module _ (named : is_name n ≡ true) (new : is-new used n ≡ true) where
-    after-names : first-failed (line-checks used ps at n s b) ≡ first-failed (of-sum ++ of-bound)
-    after-names = cond-true _ _ _ named ∙ cond-true _ _ _ new
+  module _ (named : is_name n ≡ true) (new : is_new used n ≡ true) where
+    after_names : first_failed (line_checks used ps at n s b) ≡ first_failed (of_sum ++ of_bound)
+    after_names = cond-true _ _ _ named ∙ cond-true _ _ _ new
 
-    to-answer : (f : TextFault) → ◌≡◌ {A = Result (Unit {0}) TextFault} (Err f) (unless (first-failed (of-sum ++ of-bound)) k (Ok tt)) → Err f ≡ answer
-    to-answer f h = h ∙ ap (λ (o : Option Check). unless {X = Unit {0}} o k (Ok tt)) (sym after-names)
+    to_answer : (f : TextFault) → ◌≡◌ {A = Result (Unit {0}) TextFault} (Err f) (unless (first_failed (of_sum ++ of_bound)) k (Ok tt)) → Err f ≡ answer
+    to_answer f h = h ∙ ap (λ (o : Option Check). unless {X = Unit {0}} o k (Ok tt)) (sym after_names)
 
-    pub sum-refused : (f : TextFault) → Err f ≡ checked {A = Unit {0}} of-sum k tt → Err f ≡ answer
-    sum-refused f h = to-answer f (stops of-sum of-bound k tt (Ok tt) f h)
+    pub sum_refused : (f : TextFault) → Err f ≡ checked {A = Unit {0}} of_sum k tt → Err f ≡ answer
+    sum_refused f h = to_answer f (stops of_sum of_bound k tt (Ok tt) f h)
 
-    module _ (summed : first-failed of-sum ≡ None) where
-      sum-passed : fine ≡ checked of-sum k tt
-      sum-passed = sym (ap (λ (o : Option Check). unless {X = Unit {0}} o k (Ok tt)) summed)
+    module _ (summed : first_failed of_sum ≡ None) where
+      sum_passed : fine ≡ checked of_sum k tt
+      sum_passed = sym (ap (λ (o : Option Check). unless {X = Unit {0}} o k (Ok tt)) summed)
 
-      pub bound-refused : (f : TextFault) → Err f ≡ checked of-bound k (bound_of b) → Err f ≡ answer
-      bound-refused f h = to-answer f (then-stops of-sum of-bound k tt tt (Ok tt) f sum-passed (stops of-bound [] k (bound_of b) (Ok tt) f h))
+      pub bound_refused : (f : TextFault) → Err f ≡ checked of_bound k (bound_of b) → Err f ≡ answer
+      bound_refused f h = to_answer f (then_stops of_sum of_bound k tt tt (Ok tt) f sum_passed (stops of_bound [] k (bound_of b) (Ok tt) f h))
 
-      pub line-fine : (z : ℤ) → Ok z ≡ checked of-bound k (bound_of b) → (first-failed (line-checks used ps at n s b) ≡ None) × (z ≡ bound_of b)
-      line-fine z h =
-          let w = goes of-bound [] k (bound_of b) z h in
-          (after-names ∙ (goes of-sum of-bound k tt tt sum-passed).1 ∙ w.1, w.0)
+      pub line_fine : (z : ℤ) → Ok z ≡ checked of_bound k (bound_of b) → (first_failed (line_checks used ps at n s b) ≡ None) × (z ≡ bound_of b)
+      line_fine z h =
+          let w = goes of_bound [] k (bound_of b) z h in
+          (after_names ∙ (goes of_sum of_bound k tt tt sum_passed).1 ∙ w.1, w.0)

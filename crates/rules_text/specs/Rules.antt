@@ -2,7 +2,7 @@
 --   LineSays bs l r    the line l, read from the text bs, says the rule r: its name, what its sum weighs at each place, and its bound
 --   EachSays bs ls rs  each line of ls says its rule of rs
 --   RulesSay bs r x    the read rules r say the rules x
---   rule-titles bs r   the names of the rules, the fixed one first, as parts of the text bs
+--   rule_titles bs r   the names of the rules, the fixed one first, as parts of the text bs
 --   no_rule            what is read past the end of the rules
 use Rattle.std.specs.Prelude.{◌≡◌, ℕ, List, [], ◌∷◌, map, pos, replicate, vec_items}
 use Rattle.formats.specs.RulesText as said
@@ -26,8 +26,8 @@ pub record RulesSay (bs : List ℕ) (r : RulesText) (x : said.RulesText) : Type 
   pub fixed : LineSays bs r.fixed x.fixed
   pub others : EachSays bs (vec_items r.others) x.others
 
-abbrev pub rule-titles : List ℕ → RulesText → List (List ℕ)
-rule-titles bs r = part_of bs r.fixed.name ∷ map (λ (l : RuleLine). part_of bs l.name) (vec_items r.others)
+abbrev pub rule_titles : List ℕ → RulesText → List (List ℕ)
+rule_titles bs r = part_of bs r.fixed.name ∷ map (λ (l : RuleLine). part_of bs l.name) (vec_items r.others)
 
 abbrev pub no_rule : RuleLine
 no_rule = record { name = span 0 0; weights = replicate 32 (pos 0); bound = pos 0 }

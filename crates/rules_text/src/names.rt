@@ -1,10 +1,10 @@
 // The names of places, moves and rules, as parts of the texts that have them.
 ghost use Rattle.std.specs.Prelude.{◌≡◌, ℕ, ◌++◌, map, slice_get};
 ghost use Rattle.std.specs.Option.{option_map};
-ghost use Rattle.net_text.specs.Nets.{place-titles, move-titles};
+ghost use Rattle.net_text.specs.Nets.{place_titles, move_titles};
 ghost use Rattle.texts.specs.Spans.{part_of, found};
 ghost use Rattle.rules_text.specs.declared.rule.RuleLine.{RuleLine};
-ghost use Rattle.rules_text.specs.Rules.{rule-titles};
+ghost use Rattle.rules_text.specs.Rules.{rule_titles};
 ghost use Rattle.rules_text.specs.Naming.{rule_found};
 
 use crate::rule::RulesText;
@@ -31,7 +31,7 @@ fn row_name<'a>(rules: &RulesText, text: &'a [u8], r: usize) -> Option<&'a [u8]>
 
 // The name of the rule `r`, where 0 is the fixed one and the others follow it.
 pub fn rule_name<'a>(rules: &RulesText, text: &'a [u8], r: usize) -> Option<&'a [u8]>
-    ensures { option_map (λ x. x.now) result ≡ slice_get (rule-titles text.now rules.now) r }
+    ensures { option_map (λ x. x.now) result ≡ slice_get (rule_titles text.now rules.now) r }
 {
     if r == 0 {
         Some(part(text, rules.fixed.name))
@@ -49,7 +49,7 @@ pub fn place_name<'a>(
     rules_text: &'a [u8],
     p: usize,
 ) -> Option<&'a [u8]>
-    ensures { option_map (λ x. x.now) result ≡ slice_get (place-titles net_text.now net.now ++ rule-titles rules_text.now rules.now) p }
+    ensures { option_map (λ x. x.now) result ≡ slice_get (place_titles net_text.now net.now ++ rule_titles rules_text.now rules.now) p }
 {
     match net.places.get(p) {
         Some(place) => Some(part(net_text, place.name)),
@@ -59,7 +59,7 @@ pub fn place_name<'a>(
 
 // The name of the move `t`.
 pub fn move_name<'a>(net: &NetText, net_text: &'a [u8], t: usize) -> Option<&'a [u8]>
-    ensures { option_map (λ x. x.now) result ≡ slice_get (move-titles net_text.now net.now) t }
+    ensures { option_map (λ x. x.now) result ≡ slice_get (move_titles net_text.now net.now) t }
 {
     match net.moves.get(t) {
         Some(one) => Some(part(net_text, one.name)),
@@ -69,21 +69,21 @@ pub fn move_name<'a>(net: &NetText, net_text: &'a [u8], t: usize) -> Option<&'a 
 
 // The move of that name.
 pub fn find_move(net: &NetText, net_text: &[u8], name: &[u8]) -> Option<usize>
-    ensures { result ≡ found (move-titles net_text.now net.now) name.now }
+    ensures { result ≡ found (move_titles net_text.now net.now) name.now }
 {
     find(&net.moves, net_text, name)
 }
 
 // The ground place of that name.
 pub fn find_place(net: &NetText, net_text: &[u8], name: &[u8]) -> Option<usize>
-    ensures { result ≡ found (place-titles net_text.now net.now) name.now }
+    ensures { result ≡ found (place_titles net_text.now net.now) name.now }
 {
     find(&net.places, net_text, name)
 }
 
 // The rule of that name.
 pub fn find_rule(rules: &RulesText, text: &[u8], name: &[u8]) -> Option<Rule>
-    ensures { result ≡ rule_found (rule-titles text.now rules.now) name.now }
+    ensures { result ≡ rule_found (rule_titles text.now rules.now) name.now }
 {
     if same(part(text, rules.fixed.name), name) {
         return Some(Rule::Fixed);

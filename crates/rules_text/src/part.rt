@@ -1,11 +1,11 @@
 // One part of a sum: a number and a star, if it has them, and the name of a place.
 ghost use Rattle.std.specs.Prelude.{◌≡◌, ℕ, ◌+◌, ◌^◌, ◌<◌, ◌≤◌, ◌↔◌, length, drop, min, IsTrue, IfOk, IfSome};
 ghost use Rattle.std.specs.List.{prefix_len};
-ghost use Rattle.formats.specs.Words.{is_digit, index_of, is-numeral, value};
-ghost use Rattle.formats.specs.Sums.{begins-name, body_at};
+ghost use Rattle.formats.specs.Words.{is_digit, index_of, is_numeral, value};
+ghost use Rattle.formats.specs.Sums.{begins_name, body_at};
 ghost use Rattle.texts.specs.Numbers.{is_word};
 ghost use Rattle.texts.specs.Spans.{checked};
-ghost use Rattle.rules_text.specs.Sums.{titles, next_at, piece_at, number_of, factor_of, Rest, number-checks, name-checks, term-checks, title_of, term_at};
+ghost use Rattle.rules_text.specs.Sums.{titles, next_at, piece_at, number_of, factor_of, Rest, number_checks, name_checks, term_checks, title_of, term_at};
 
 use formats::fault::TextFault;
 use model::refusal::Refusal;
@@ -82,7 +82,7 @@ fn name_end(sum: &[u8], start: usize) -> usize
 
 // Whether a name begins at `i`.
 fn begins_name(sum: &[u8], i: usize) -> bool
-    ensures { result ≡ begins-name (piece_at sum.now i) }
+    ensures { result ≡ begins_name (piece_at sum.now i) }
 {
     i < sum.len() && is_letter(sum[i])
 }
@@ -102,7 +102,7 @@ fn factor(digits: &[u8]) -> Option<u32>
 fn read_number(sum: &[u8], start: usize, at: At, byte: usize) -> Result<(u32, usize), TextFault>
     requires start_within { start ≤ length sum.now }
     requires sum_bound { byte + length sum.now + 1 < 2 ^ 64 }
-    ensures value { result ≡ checked (number-checks (byte + start) (piece_at sum.now start)) at.line (number_of (piece_at sum.now start), start + body_at (piece_at sum.now start)) }
+    ensures value { result ≡ checked (number_checks (byte + start) (piece_at sum.now start)) at.line (number_of (piece_at sum.now start), start + body_at (piece_at sum.now start)) }
     ensures within { IfOk result (λ r. (r.0 ≤ 99) × (r.1 ≤ length sum.now)) }
     ensures rest { IfOk result (λ r. Rest sum.now start r.1) }
 {
@@ -130,7 +130,7 @@ fn read_name(
 ) -> Result<(usize, usize), TextFault>
     requires start_within { start ≤ length sum.now }
     requires sum_bound { byte + length sum.now + 1 < 2 ^ 64 }
-    ensures value { result ≡ checked (name-checks (titles net.now places.now) (byte + start) (piece_at sum.now start)) at.line (index_of (titles net.now places.now) (title_of (piece_at sum.now start)), start + length (title_of (piece_at sum.now start))) }
+    ensures value { result ≡ checked (name_checks (titles net.now places.now) (byte + start) (piece_at sum.now start)) at.line (index_of (titles net.now places.now) (title_of (piece_at sum.now start)), start + length (title_of (piece_at sum.now start))) }
     ensures within { IfOk result (λ r. (r.0 < length places.now) × (r.1 ≤ length sum.now)) }
 {
     at.check(begins_name(sum, start), Refusal::Sum, byte + start)?;
@@ -152,7 +152,7 @@ pub(crate) fn read_term(
 ) -> Result<Term, TextFault>
     requires start_within { start ≤ length sum.now }
     requires sum_bound { byte + length sum.now + 1 < 2 ^ 64 }
-    ensures value { result ≡ checked (term-checks (titles net.now places.now) (byte + start) (piece_at sum.now start)) at.line (term_at (titles net.now places.now) start (piece_at sum.now start)) }
+    ensures value { result ≡ checked (term_checks (titles net.now places.now) (byte + start) (piece_at sum.now start)) at.line (term_at (titles net.now places.now) start (piece_at sum.now start)) }
     ensures within { IfOk result (λ t. (t.number ≤ 99) × (t.place < length places.now) × (t.end ≤ length sum.now)) }
     ensures rest { IfOk result (λ t. Rest sum.now start t.name) }
 {

@@ -1,14 +1,14 @@
 // Reads the lines of a rules text, by the order of checks.
 ghost use Rattle.std.specs.Prelude.{◌≡◌, ℕ, ◌+◌, ◌^◌, ◌<◌, ◌≤◌, ◌&&◌, List, [], ◌∷◌, ◌++◌, length, pos, ◌≤ℤ◌, ◌<ℤ◌, IfSome};
 ghost use Rattle.model.specs.declared.refusal.Refusal.TheVariants.{Field};
-ghost use Rattle.model.specs.Sizes.{most-places, bound-digits};
-ghost use Rattle.formats.specs.Words.{is-new, fields};
+ghost use Rattle.model.specs.Sizes.{most_places, bound_digits};
+ghost use Rattle.formats.specs.Words.{is_new, fields};
 ghost use Rattle.formats.specs.Texts.{check};
-ghost use Rattle.formats.specs.NetText.{names, place-names};
-ghost use Rattle.formats.specs.RulesText.{is_bound, bound_of, rule-shape};
-ghost use Rattle.net_text.specs.Nets.{net-of};
+ghost use Rattle.formats.specs.NetText.{names, place_names};
+ghost use Rattle.formats.specs.RulesText.{is_bound, bound_of, rule_shape};
+ghost use Rattle.net_text.specs.Nets.{net_of};
 ghost use Rattle.texts.specs.Spans.{checked};
-ghost use Rattle.rules_text.specs.Rules.{rule-titles};
+ghost use Rattle.rules_text.specs.Rules.{rule_titles};
 ghost use Rattle.rules_text.specs.Reading.{whole_said, bound_said, LineRead, FixedRead, Stands};
 
 use crate::rule::{RuleLine, RulesText};
@@ -26,14 +26,14 @@ use texts::words::{is_name, number, same};
 
 // Whether neither a place nor a move has the name.
 fn is_new_in_net(net: &NetText, net_text: &[u8], name: &[u8]) -> bool
-    ensures { result ≡ is-new (names (net-of net_text.now net.now)) name.now }
+    ensures { result ≡ is_new (names (net_of net_text.now net.now)) name.now }
 {
     lacks(&net.places, net_text, name) && lacks(&net.moves, net_text, name)
 }
 
 // Whether no rule has the name.
 fn is_new_in_rules(rules: &RulesText, text: &[u8], name: &[u8]) -> bool
-    ensures { result ≡ is-new (rule-titles text.now rules.now) name.now }
+    ensures { result ≡ is_new (rule_titles text.now rules.now) name.now }
 {
     !same(part(text, rules.fixed.name), name) && lacks(&rules.others, text, name)
 }
@@ -46,7 +46,7 @@ pub(crate) fn is_new(
     text: &[u8],
     name: &[u8],
 ) -> bool
-    ensures { result ≡ is-new (names (net-of net_text.now net.now) ++ rule-titles text.now rules.now) name.now }
+    ensures { result ≡ is_new (names (net_of net_text.now net.now) ++ rule_titles text.now rules.now) name.now }
 {
     is_new_in_net(net, net_text, name) && is_new_in_rules(rules, text, name)
 }
@@ -54,7 +54,7 @@ pub(crate) fn is_new(
 // The number that the field writes, if it has no more digits than a bound.
 fn whole(field: &[u8]) -> Option<i32>
     ensures value { result ≡ whole_said field.now }
-    ensures within { IfSome result (λ z. (pos 0 ≤ℤ z) × (z <ℤ pos (10 ^ bound-digits))) }
+    ensures within { IfSome result (λ z. (pos 0 ≤ℤ z) × (z <ℤ pos (10 ^ bound_digits))) }
 {
     match number(field, BOUND_DIGITS) {
         Some(n) => Some(n as i32),
@@ -96,9 +96,9 @@ pub(crate) fn read_rule(
     sum: &[u8],
     bound: &[u8],
 ) -> Result<RuleLine, TextFault>
-    requires places_len_bound { length net.now.places.items ≤ most-places }
+    requires places_len_bound { length net.now.places.items ≤ most_places }
     requires line_bound { byte + length name.now + 1 + length sum.now + 1 < 2 ^ 64 }
-    ensures { (used : List (List ℕ)) → new ≡ is-new used name.now → LineRead used (place-names (net-of net_text.now net.now)) at.line byte name.now sum.now bound.now result }
+    ensures { (used : List (List ℕ)) → new ≡ is_new used name.now → LineRead used (place_names (net_of net_text.now net.now)) at.line byte name.now sum.now bound.now result }
 {
     at.check(is_name(name), Refusal::Field, byte)?;
     at.check(new, Refusal::NameTaken, byte)?;
@@ -122,9 +122,9 @@ pub(crate) fn read_fixed(
     line: &[u8],
     at: At,
 ) -> Result<RuleLine, TextFault>
-    requires places_len_bound { length net.now.places.items ≤ most-places }
+    requires places_len_bound { length net.now.places.items ≤ most_places }
     requires line_bound { at.byte + length line.now + 1 < 2 ^ 64 }
-    ensures { FixedRead (names (net-of net_text.now net.now)) (place-names (net-of net_text.now net.now)) at.line at.byte (rule-shape (fields line.now)) result }
+    ensures { FixedRead (names (net_of net_text.now net.now)) (place_names (net_of net_text.now net.now)) at.line at.byte (rule_shape (fields line.now)) result }
 {
     match read_line(line, at)? {
         Record::Fixed { name, sum, bound } => {

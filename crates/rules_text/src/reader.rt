@@ -1,11 +1,11 @@
 // The reader of the rules text.
 ghost use Rattle.std.specs.Prelude.{◌≡◌, ℕ, ◌+◌, ◌^◌, ◌<◌, ◌≤◌, length, nat_lt, vec_len, OnOk};
-ghost use Rattle.model.specs.Sizes.{most-places, most-rules, most_bytes};
+ghost use Rattle.model.specs.Sizes.{most_places, most_rules, most_bytes};
 ghost use Rattle.formats.specs.Words.{last};
-ghost use Rattle.formats.specs.NetText.{names, place-names};
-ghost use Rattle.formats.specs.RulesText.RuleShape.{a-rule};
-ghost use Rattle.texts.specs.Lines.{rule-shape-of};
-ghost use Rattle.net_text.specs.Nets.{net-of};
+ghost use Rattle.formats.specs.NetText.{names, place_names};
+ghost use Rattle.formats.specs.RulesText.RuleShape.{a_rule};
+ghost use Rattle.texts.specs.Lines.{rule_shape_of};
+ghost use Rattle.net_text.specs.Nets.{net_of};
 ghost use Rattle.rules_text.specs.Reading.{Step, Stands, Located, Locates, Placed, LinesRead, RulesRead};
 
 use crate::read::{is_new, read_fixed, read_rule};
@@ -23,7 +23,7 @@ use texts::words::until;
 
 // Whether there may be one more rule.
 fn rule_fits(rules: &RulesText) -> bool
-    ensures { result ≡ nat_lt (vec_len rules.now.others) most-rules }
+    ensures { result ≡ nat_lt (vec_len rules.now.others) most_rules }
 {
     rules.others.len() < MOST_RULES
 }
@@ -39,10 +39,10 @@ fn add_rule(
     sum: &[u8],
     bound: &[u8],
 ) -> Result<(), ReadError>
-    requires places_len_bound { length net.now.places.items ≤ most-places }
-    requires stands { Stands text.now at.byte (a-rule name.now sum.now bound.now) }
+    requires places_len_bound { length net.now.places.items ≤ most_places }
+    requires stands { Stands text.now at.byte (a_rule name.now sum.now bound.now) }
     requires text_len_bound { length text.now < 2 ^ 63 }
-    ensures step { Step (names (net-of net_text.now net.now)) (place-names (net-of net_text.now net.now)) text.now rules.old rules.new at.line at.byte (a-rule name.now sum.now bound.now) result }
+    ensures step { Step (names (net_of net_text.now net.now)) (place_names (net_of net_text.now net.now)) text.now rules.old rules.new at.line at.byte (a_rule name.now sum.now bound.now) result }
     ensures located { OnOk result (Locates text.now rules.old rules.new at.byte) }
 {
     at.check(rule_fits(rules), Refusal::TooMany, at.byte)?;
@@ -61,10 +61,10 @@ fn add_record(
     at: At,
     line: Record<'_>,
 ) -> Result<(), ReadError>
-    requires places_len_bound { length net.now.places.items ≤ most-places }
-    requires stands { Stands text.now at.byte (rule-shape-of line) }
+    requires places_len_bound { length net.now.places.items ≤ most_places }
+    requires stands { Stands text.now at.byte (rule_shape_of line) }
     requires text_len_bound { length text.now < 2 ^ 63 }
-    ensures step { Step (names (net-of net_text.now net.now)) (place-names (net-of net_text.now net.now)) text.now rules.old rules.new at.line at.byte (rule-shape-of line.entry) result }
+    ensures step { Step (names (net_of net_text.now net.now)) (place_names (net_of net_text.now net.now)) text.now rules.old rules.new at.line at.byte (rule_shape_of line.entry) result }
     ensures located { OnOk result (Locates text.now rules.old rules.new at.byte) }
 {
     match line {
@@ -83,9 +83,9 @@ fn read_lines(
     text: &[u8],
     at: At,
 ) -> Result<(), ReadError>
-    requires places_len_bound { length net.now.places.items ≤ most-places }
+    requires places_len_bound { length net.now.places.items ≤ most_places }
     requires text_bound { (at.byte ≤ length text.now) × (at.line ≤ at.byte + 1) × (length text.now ≤ most_bytes) × (last text.now ≡ 10) }
-    ensures answer { LinesRead (names (net-of net_text.now net.now)) (place-names (net-of net_text.now net.now)) text.now rules.old rules.new at.line at.byte result }
+    ensures answer { LinesRead (names (net_of net_text.now net.now)) (place_names (net_of net_text.now net.now)) text.now rules.old rules.new at.line at.byte result }
     ensures located { OnOk result (Placed text.now rules.old at.byte → Located text.now rules.new) }
 {
     let mut line = at.line;

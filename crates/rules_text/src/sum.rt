@@ -1,7 +1,7 @@
 // The reader of a sum: the weights that it gives to the places.
 ghost use Rattle.std.specs.Prelude.{◌≡◌, ℕ, ◌+◌, ◌^◌, ◌<◌, ◌≤◌, length, ◌*◌, nat_le, ◌+ℤ◌, unsigned_abs};
-ghost use Rattle.model.specs.Sizes.{most-places, most-weight};
-ghost use Rattle.formats.specs.Sums.{with-sign};
+ghost use Rattle.model.specs.Sizes.{most_places, most_weight};
+ghost use Rattle.formats.specs.Sums.{with_sign};
 ghost use Rattle.rules_text.specs.Sums.{titles, SumRead};
 
 use crate::part::{Next, next_at, read_term};
@@ -13,17 +13,17 @@ use texts::at::At;
 
 // A weight with one part more.
 fn added(weight: i32, number: u32, minus: bool) -> i32
-    requires weight_bound { unsigned_abs weight ≤ most-weight }
+    requires weight_bound { unsigned_abs weight ≤ most_weight }
     requires number_bound { number ≤ 99 }
-    ensures value { result ≡ weight +ℤ with-sign minus number }
-    ensures within { unsigned_abs result ≤ 2 * most-weight }
+    ensures value { result ≡ weight +ℤ with_sign minus number }
+    ensures within { unsigned_abs result ≤ 2 * most_weight }
 {
     let more = number as i32;
     if minus { weight - more } else { weight + more }
 }
 
 fn is_weight(weight: i32) -> bool
-    ensures { result ≡ nat_le (unsigned_abs weight) most-weight }
+    ensures { result ≡ nat_le (unsigned_abs weight) most_weight }
 {
     -MOST_WEIGHT <= weight && weight <= MOST_WEIGHT
 }
@@ -36,7 +36,7 @@ pub(crate) fn read_sum(
     at: At,
     byte: usize,
 ) -> Result<[i32; MOST_PLACES], TextFault>
-    requires places_len_bound { length places.now ≤ most-places }
+    requires places_len_bound { length places.now ≤ most_places }
     requires sum_bound { byte + length sum.now + 1 < 2 ^ 64 }
     ensures { SumRead (titles net.now places.now) at.line byte sum.now result }
 {

@@ -7,14 +7,14 @@ use Rattle.std.proofs.lemmas.Bool.{cases_eq, cases_lt, cond-true, cond-false, lt
 abbrev pub Changed : (ℕ → ℕ) → ℕ → List ℕ → List ℕ → Type 0
 Changed f i was is = (p : ℕ) → get_or is p 0 ≡ cond (ltb p i) (f p) (get_or was p 0)
 
-pub changed-none : (f : ℕ → ℕ) (was : List ℕ) → Changed f 0 was was
-changed-none f was p = sym (cond-false _ _ _ (le-ltb p 0 (omega arith)))
+pub changed_none : (f : ℕ → ℕ) (was : List ℕ) → Changed f 0 was was
+changed_none f was p = sym (cond-false _ _ _ (le-ltb p 0 (omega arith)))
 
-pub changed-at : (f : ℕ → ℕ) (i : ℕ) (was is : List ℕ) → Changed f i was is → get_or is i 0 ≡ get_or was i 0
-changed-at f i was is h = h i ∙ cond-false _ _ _ (le-ltb i i (omega arith))
+pub changed_at : (f : ℕ → ℕ) (i : ℕ) (was is : List ℕ) → Changed f i was is → get_or is i 0 ≡ get_or was i 0
+changed_at f i was is h = h i ∙ cond-false _ _ _ (le-ltb i i (omega arith))
 
-pub changed-more : (f : ℕ → ℕ) (i : ℕ) (was is : List ℕ) (v : ℕ) → Changed f i was is → i < length is → v ≡ f i → Changed f (i + 1) was (set is i v)
-changed-more f i was is v h l e p = go (cases_eq p i)
+pub changed_more : (f : ℕ → ℕ) (i : ℕ) (was is : List ℕ) (v : ℕ) → Changed f i was is → i < length is → v ≡ f i → Changed f (i + 1) was (set is i v)
+changed_more f i was is v h l e p = go (cases_eq p i)
   where
     go : (p ≡ i) ⊎ (p ≡ i → ⊥) → get_or (set is i v) p 0 ≡ cond (ltb p (i + 1)) (f p) (get_or was p 0)
     go (inl q) =

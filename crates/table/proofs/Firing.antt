@@ -5,11 +5,11 @@ use Rattle.model.specs.Plant.{Answer, accepted}
 use Rattle.table.specs.Tables.{at}
 
 -- a column of arcs at places and moves that are there
-pub column-in : (n k p t : ℕ) (v : ℕ) → p < n → t < k → cond (ltb p n && ltb t k) v 0 ≡ v
-column-in n k p t v l m = cond-true _ v 0 (and_from _ _ (lt-ltb p n l) (lt-ltb t k m))
+pub column_in : (n k p t : ℕ) (v : ℕ) → p < n → t < k → cond (ltb p n && ltb t k) v 0 ≡ v
+column_in n k p t v l m = cond-true _ v 0 (and_from _ _ (lt-ltb p n l) (lt-ltb t k m))
 
-pub column-out : (n k p t : ℕ) (v : ℕ) → n ≤ p → cond (ltb p n && ltb t k) v 0 ≡ 0
-column-out n k p t v h = cond-false _ v 0 (and_left _ _ (le-ltb p n h))
+pub column_out : (n k p t : ℕ) (v : ℕ) → n ≤ p → cond (ltb p n && ltb t k) v 0 ≡ 0
+column_out n k p t v h = cond-false _ v 0 (and_left _ _ (le-ltb p n h))
 
 pub inside : (n p v : ℕ) → p < n → cond (ltb p n) v 0 ≡ v
 inside n p v l = cond-true _ v 0 (lt-ltb p n l)
@@ -24,28 +24,28 @@ module _ (n k t : ℕ) (was is arcs : List ℕ) (a : Answer) (ok : Ok tt ≡ a) 
   lowered h p = go (cases_lt p n) ∙ ap (λ (b : Answer). cond (accepted b) (cond (ltb p n) (get_or was p 0) 0 - cond (ltb p n && ltb t k) (get_or arcs (at p t) 0) 0) (cond (ltb p n) (get_or was p 0) 0)) ok
     where
       go : (p < n) ⊎ (n ≤ p) → cond (ltb p n) (get_or is p 0) 0 ≡ cond (ltb p n) (get_or was p 0) 0 - cond (ltb p n && ltb t k) (get_or arcs (at p t) 0) 0
-      go (inl l) = inside n p (get_or is p 0) l ∙ h p ∙ cond-true _ _ _ (lt-ltb p n l) ∙ sym (ap₂ (λ (x y : ℕ). x - y) (inside n p (get_or was p 0) l) (column-in n k p t (get_or arcs (at p t) 0) l lt))
-      go (inr m) = outside n p (get_or is p 0) m ∙ sym (ap₂ (λ (x y : ℕ). x - y) (outside n p (get_or was p 0) m) (column-out n k p t (get_or arcs (at p t) 0) m))
+      go (inl l) = inside n p (get_or is p 0) l ∙ h p ∙ cond-true _ _ _ (lt-ltb p n l) ∙ sym (ap₂ (λ (x y : ℕ). x - y) (inside n p (get_or was p 0) l) (column_in n k p t (get_or arcs (at p t) 0) l lt))
+      go (inr m) = outside n p (get_or is p 0) m ∙ sym (ap₂ (λ (x y : ℕ). x - y) (outside n p (get_or was p 0) m) (column_out n k p t (get_or arcs (at p t) 0) m))
 
   pub raised : ((p : ℕ) → get_or is p 0 ≡ cond (ltb p n) (get_or was p 0 + get_or arcs (at p t) 0) (get_or was p 0))
       → (p : ℕ) → cond (ltb p n) (get_or is p 0) 0 ≡ cond (accepted a) (cond (ltb p n) (get_or was p 0) 0 + cond (ltb p n && ltb t k) (get_or arcs (at p t) 0) 0) (cond (ltb p n) (get_or was p 0) 0)
   raised h p = go (cases_lt p n) ∙ ap (λ (b : Answer). cond (accepted b) (cond (ltb p n) (get_or was p 0) 0 + cond (ltb p n && ltb t k) (get_or arcs (at p t) 0) 0) (cond (ltb p n) (get_or was p 0) 0)) ok
     where
       go : (p < n) ⊎ (n ≤ p) → cond (ltb p n) (get_or is p 0) 0 ≡ cond (ltb p n) (get_or was p 0) 0 + cond (ltb p n && ltb t k) (get_or arcs (at p t) 0) 0
-      go (inl l) = inside n p (get_or is p 0) l ∙ h p ∙ cond-true _ _ _ (lt-ltb p n l) ∙ sym (ap₂ (λ (x y : ℕ). x + y) (inside n p (get_or was p 0) l) (column-in n k p t (get_or arcs (at p t) 0) l lt))
-      go (inr m) = outside n p (get_or is p 0) m ∙ sym (ap₂ (λ (x y : ℕ). x + y) (outside n p (get_or was p 0) m) (column-out n k p t (get_or arcs (at p t) 0) m))
+      go (inl l) = inside n p (get_or is p 0) l ∙ h p ∙ cond-true _ _ _ (lt-ltb p n l) ∙ sym (ap₂ (λ (x y : ℕ). x + y) (inside n p (get_or was p 0) l) (column_in n k p t (get_or arcs (at p t) 0) l lt))
+      go (inr m) = outside n p (get_or is p 0) m ∙ sym (ap₂ (λ (x y : ℕ). x + y) (outside n p (get_or was p 0) m) (column_out n k p t (get_or arcs (at p t) 0) m))
 
 -- ---- what the calls over the arrays ask for
 pub enough : (n k p t x y : ℕ) → p < n → t < k → cond (ltb p n && ltb t k) x 0 ≤ cond (ltb p n) y 0 → x ≤ y
-enough n k p t x y l m h = omega (arith, column-in n k p t x l m, inside n p y l)
+enough n k p t x y l m h = omega (arith, column_in n k p t x l m, inside n p y l)
 
 pub room : (n k p t x y z : ℕ) → p < n → t < k → cond (ltb p n) y 0 + cond (ltb p n && ltb t k) x 0 ≤ cond (ltb p n) z 0 → y + x ≤ z
-room n k p t x y z l m h = omega (arith, column-in n k p t x l m, inside n p y l, inside n p z l)
+room n k p t x y z l m h = omega (arith, column_in n k p t x l m, inside n p y l, inside n p z l)
 
 -- no place holds more than its limit after a raise
-pub still-held : (n : ℕ) (was is arcs limits : List ℕ) (t : ℕ) → ((p : ℕ) → get_or was p 0 ≤ get_or limits p 1) → ((p : ℕ) → p < n → get_or was p 0 + get_or arcs (at p t) 0 ≤ get_or limits p 1)
+pub still_held : (n : ℕ) (was is arcs limits : List ℕ) (t : ℕ) → ((p : ℕ) → get_or was p 0 ≤ get_or limits p 1) → ((p : ℕ) → p < n → get_or was p 0 + get_or arcs (at p t) 0 ≤ get_or limits p 1)
     → ((p : ℕ) → get_or is p 0 ≡ cond (ltb p n) (get_or was p 0 + get_or arcs (at p t) 0) (get_or was p 0)) → (p : ℕ) → get_or is p 0 ≤ get_or limits p 1
-still-held n was is arcs limits t held fits h p = go (cases_lt p n)
+still_held n was is arcs limits t held fits h p = go (cases_lt p n)
   where
     go : (p < n) ⊎ (n ≤ p) → get_or is p 0 ≤ get_or limits p 1
     go (inl l) = omega (arith, h p ∙ cond-true _ _ _ (lt-ltb p n l), fits p l)

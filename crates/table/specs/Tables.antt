@@ -1,17 +1,17 @@
 -- The net that a table stands for.
---   table-net        n places and k moves, with what is said of their letters, arcs and limits; all else is 0
+--   table_net        n places and k moves, with what is said of their letters, arcs and limits; all else is 0
 --   cells            how many arcs a table has: one for each place and move
 --   at               the index of place p and move t in a table of arcs
---   net-of           the net of a table
---   tokens-of        the tokens at each place of a table
+--   net_of           the net of a table
+--   tokens_of        the tokens at each place of a table
 use Rattle.std.specs.Prelude.{ℕ, ◌+◌, ◌*◌, Bool, false, cond, ◌&&◌, nat_lt, slice_index, slice_index_or}
-use Rattle.model.specs.Sizes.{most-places, most-moves}
+use Rattle.model.specs.Sizes.{most_places, most_moves}
 use Rattle.model.specs.Net.{Net}
 use Rattle.table.specs.declared.table.Table.{Table}
 
-abbrev pub table-net : ℕ → ℕ → (ℕ → Bool) → (ℕ → ℕ → ℕ) → (ℕ → ℕ → ℕ) → (ℕ → ℕ) → Net
-table-net n k letters takes gives limits = record {
-  ground-places = n;
+abbrev pub table_net : ℕ → ℕ → (ℕ → Bool) → (ℕ → ℕ → ℕ) → (ℕ → ℕ → ℕ) → (ℕ → ℕ) → Net
+table_net n k letters takes gives limits = record {
+  ground_places = n;
   places = n;
   moves = k;
   controllable = λ t. nat_lt t k && letters t;
@@ -23,13 +23,13 @@ table-net n k letters takes gives limits = record {
 }
 
 abbrev pub cells : ℕ
-cells = most-places * most-moves
+cells = most_places * most_moves
 
 abbrev pub at : ℕ → ℕ → ℕ
-at p t = p * most-moves + t
+at p t = p * most_moves + t
 
-abbrev pub net-of : Table → Net
-net-of s = table-net s.places s.moves (λ t. slice_index_or s.controllable t false) (λ p t. slice_index s.takes (at p t)) (λ p t. slice_index s.gives (at p t)) (λ p. slice_index_or s.limits p 1)
+abbrev pub net_of : Table → Net
+net_of s = table_net s.places s.moves (λ t. slice_index_or s.controllable t false) (λ p t. slice_index s.takes (at p t)) (λ p t. slice_index s.gives (at p t)) (λ p. slice_index_or s.limits p 1)
 
-abbrev pub tokens-of : Table → ℕ → ℕ
-tokens-of s p = cond (nat_lt p s.places) (slice_index s.tokens p) 0
+abbrev pub tokens_of : Table → ℕ → ℕ
+tokens_of s p = cond (nat_lt p s.places) (slice_index s.tokens p) 0

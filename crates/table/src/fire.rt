@@ -1,7 +1,7 @@
 // The table as a net and as a plant.
 ghost use Rattle.std.specs.Prelude.{◌≡◌, ℕ, ◌≤◌};
-ghost use Rattle.model.specs.Layer.{plant-alone};
-ghost use Rattle.table.specs.Tables.{net-of, tokens-of};
+ghost use Rattle.model.specs.Layer.{plant_alone};
+ghost use Rattle.table.specs.Tables.{net_of, tokens_of};
 ghost use Rattle.std.proofs.Common.{rules, arith};
 
 use crate::arrays::{lower, raise};
@@ -12,7 +12,7 @@ use plant::net::Net;
 use plant::plant::Plant;
 
 impl Net for Table {
-    ghost net = { net-of };
+    ghost net = { net_of };
 
     ghost sound = { Prim.search rules };
 
@@ -64,9 +64,9 @@ impl Net for Table {
 }
 
 impl Plant for Table {
-    ghost tokens = { tokens-of };
+    ghost tokens = { tokens_of };
 
-    ghost pile = { λ s. plant-alone (net-of s) (tokens-of s) };
+    ghost pile = { λ s. plant_alone (net_of s) (tokens_of s) };
 
     ghost stacked = { Prim.search rules };
 

@@ -1,9 +1,9 @@
 // A table from a net text that was read.
 ghost use Rattle.std.specs.Prelude.{◌≡◌, ℕ, ◌+◌, ◌<◌, ◌≤◌, true, false, map, length, slice_index, slice_index_or};
-ghost use Rattle.model.specs.Sizes.{most-places, most-moves, most-arc, most-limit};
+ghost use Rattle.model.specs.Sizes.{most_places, most_moves, most_arc, most_limit};
 ghost use Rattle.formats.specs.Words.{all};
-ghost use Rattle.table.specs.Made.{amount-of, slot, is-filled, joins, is-fit, Made};
-ghost use Rattle.net_text.specs.Nets.{tokens-at, limit-at, letter_at};
+ghost use Rattle.table.specs.Made.{amount_of, slot, is_filled, joins, is_fit, Made};
+ghost use Rattle.net_text.specs.Nets.{tokens_at, limit_at, letter_at};
 
 use crate::side::Side;
 use crate::table::{CELLS, Table};
@@ -13,13 +13,13 @@ use net_text::net::{Arc, Move, NetText, Place};
 
 // Whether the limit is one that a place may have and the tokens are at most the limit.
 fn is_filled(place: &Place) -> bool
-    ensures { result ≡ is-filled place.now }
+    ensures { result ≡ is_filled place.now }
 {
     1 <= place.limit && place.limit <= MOST_LIMIT && place.tokens <= place.limit
 }
 
 fn all_filled(places: &[Place]) -> bool
-    ensures { result ≡ all is-filled places.now }
+    ensures { result ≡ all is_filled places.now }
 {
     for place in places {
         if !is_filled(place) {
@@ -49,7 +49,7 @@ fn all_join(arcs: &[Arc], places: usize, moves: usize) -> bool
 
 // Whether a table can hold the net.
 fn is_fit(net: &NetText) -> bool
-    ensures { result ≡ is-fit net.now }
+    ensures { result ≡ is_fit net.now }
 {
     let places = net.places.len();
     let moves = net.moves.len();
@@ -60,7 +60,7 @@ fn is_fit(net: &NetText) -> bool
 }
 
 fn amount(arc: &Arc, side: Side) -> u32
-    ensures { result ≡ amount-of side arc.now }
+    ensures { result ≡ amount_of side arc.now }
 {
     match side {
         Side::Take => arc.take,
@@ -70,9 +70,9 @@ fn amount(arc: &Arc, side: Side) -> u32
 
 // A table of arcs, by one side of them.
 fn fill(arcs: &[Arc], side: Side) -> [u8; CELLS]
-    requires { all (joins most-places most-moves) arcs.now ≡ true }
+    requires { all (joins most_places most_moves) arcs.now ≡ true }
     ensures value { (i : ℕ) → slice_index result i ≡ slot side arcs.now i }
-    ensures small { (i : ℕ) → slice_index result i ≤ most-arc }
+    ensures small { (i : ℕ) → slice_index result i ≤ most_arc }
 {
     let mut table = [0u8; CELLS];
     for arc in arcs {
@@ -83,10 +83,10 @@ fn fill(arcs: &[Arc], side: Side) -> [u8; CELLS]
 
 // The limits of the places, and 1 beyond them.
 fn limits_of(places: &[Place]) -> [u32; MOST_PLACES]
-    requires { (length places.now ≤ most-places) × (all is-filled places.now ≡ true) }
-    ensures value { (p : ℕ) → p < length places.now → slice_index_or result p 1 ≡ limit-at places.now p }
+    requires { (length places.now ≤ most_places) × (all is_filled places.now ≡ true) }
+    ensures value { (p : ℕ) → p < length places.now → slice_index_or result p 1 ≡ limit_at places.now p }
     ensures some { (p : ℕ) → 1 ≤ slice_index_or result p 1 }
-    ensures small { (p : ℕ) → slice_index_or result p 1 ≤ most-limit }
+    ensures small { (p : ℕ) → slice_index_or result p 1 ≤ most_limit }
 {
     let mut limits = [1u32; MOST_PLACES];
     for (p, place) in places.iter().enumerate() {
@@ -97,8 +97,8 @@ fn limits_of(places: &[Place]) -> [u32; MOST_PLACES]
 
 // The tokens of the places, and 0 beyond them.
 fn tokens_of(places: &[Place]) -> [u32; MOST_PLACES]
-    requires { length places.now ≤ most-places }
-    ensures { (p : ℕ) → slice_index result p ≡ tokens-at places.now p }
+    requires { length places.now ≤ most_places }
+    ensures { (p : ℕ) → slice_index result p ≡ tokens_at places.now p }
 {
     let mut tokens = [0u32; MOST_PLACES];
     for (p, place) in places.iter().enumerate() {
@@ -109,7 +109,7 @@ fn tokens_of(places: &[Place]) -> [u32; MOST_PLACES]
 
 // Which moves are controllable.
 fn letters_of(moves: &[Move]) -> [bool; MOST_MOVES]
-    requires { length moves.now ≤ most-moves }
+    requires { length moves.now ≤ most_moves }
     ensures { (t : ℕ) → slice_index_or result t false ≡ letter_at moves.now t }
 {
     let mut letters = [false; MOST_MOVES];

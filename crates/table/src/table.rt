@@ -1,6 +1,6 @@
 // The net table, and what no value of it is without.
 ghost use Rattle.std.specs.Prelude.{ℕ, ◌≤◌, slice_index, slice_index_or};
-ghost use Rattle.model.specs.Sizes.{most-places, most-moves, most-arc, most-limit};
+ghost use Rattle.model.specs.Sizes.{most_places, most_moves, most_arc, most_limit};
 
 use model::sizes::{MOST_MOVES, MOST_PLACES};
 
@@ -17,12 +17,12 @@ pub struct Table {
     pub(crate) limits: [u32; MOST_PLACES],
     pub(crate) tokens: [u32; MOST_PLACES],
     ghost some_places: { 1 ≤ places },
-    ghost few_places: { places ≤ most-places },
+    ghost few_places: { places ≤ most_places },
     ghost some_moves: { 1 ≤ moves },
-    ghost few_moves: { moves ≤ most-moves },
-    ghost small_takes: { (i : ℕ) → slice_index takes i ≤ most-arc },
-    ghost small_gives: { (i : ℕ) → slice_index gives i ≤ most-arc },
+    ghost few_moves: { moves ≤ most_moves },
+    ghost small_takes: { (i : ℕ) → slice_index takes i ≤ most_arc },
+    ghost small_gives: { (i : ℕ) → slice_index gives i ≤ most_arc },
     ghost some_limits: { (p : ℕ) → 1 ≤ slice_index_or limits p 1 },
-    ghost small_limits: { (p : ℕ) → slice_index_or limits p 1 ≤ most-limit },
+    ghost small_limits: { (p : ℕ) → slice_index_or limits p 1 ≤ most_limit },
     ghost held: { (p : ℕ) → slice_index tokens p ≤ slice_index_or limits p 1 },
 }

@@ -5,24 +5,24 @@ use Rattle.std.proofs.lemmas.Bool.{ne_eqb}
 use Rattle.formats.specs.Words.{none}
 use Rattle.formats.specs.declared.fault.TextFault.{TextFault}
 use Rattle.std.proofs.lemmas.Result.{err_from_is_err_and}
-use Rattle.formats.specs.Texts.{Check, first-failed, unless}
+use Rattle.formats.specs.Texts.{Check, first_failed, unless}
 use Rattle.texts.specs.Spans.{checked}
 
 -- the first checks fail: so do all
-pub stops : {A B : Type 0} (cs rest : List Check) (k : ℕ) (v : A) (x : Result B TextFault) (f : TextFault) → Err f ≡ unless (first-failed cs) k (Ok v) → Err f ≡ unless (first-failed (cs ++ rest)) k x
+pub stops : {A B : Type 0} (cs rest : List Check) (k : ℕ) (v : A) (x : Result B TextFault) (f : TextFault) → Err f ≡ unless (first_failed cs) k (Ok v) → Err f ≡ unless (first_failed (cs ++ rest)) k x
 stops [] rest k v x f e = let z : ◌≡◌ {A = ℕ} 0 1 = cc in absurd (omega arith)
 stops {A} {B} (c ∷ cs) rest k v x f e = go c.passes e (λ q. stops cs rest k v x f q)
   where
-    go : (b : Bool) → Err f ≡ unless (cond b (first-failed cs) (Some c)) k (Ok v) → (Err f ≡ unless (first-failed cs) k (Ok v) → Err f ≡ unless (first-failed (cs ++ rest)) k x) → Err f ≡ unless (cond b (first-failed (cs ++ rest)) (Some c)) k x
+    go : (b : Bool) → Err f ≡ unless (cond b (first_failed cs) (Some c)) k (Ok v) → (Err f ≡ unless (first_failed cs) k (Ok v) → Err f ≡ unless (first_failed (cs ++ rest)) k x) → Err f ≡ unless (cond b (first_failed (cs ++ rest)) (Some c)) k x
     go true q r = r q
     go false q r = cc
 
 -- the first checks pass: the others are left
-pub goes : {A : Type 0} (cs rest : List Check) (k : ℕ) (v w : A) → Ok w ≡ unless (first-failed cs) k (Ok v) → (w ≡ v) × (first-failed (cs ++ rest) ≡ first-failed rest)
+pub goes : {A : Type 0} (cs rest : List Check) (k : ℕ) (v w : A) → Ok w ≡ unless (first_failed cs) k (Ok v) → (w ≡ v) × (first_failed (cs ++ rest) ≡ first_failed rest)
 goes [] rest k v w e = (cc, refl)
 goes {A} (c ∷ cs) rest k v w e = go c.passes e (λ q. goes cs rest k v w q)
   where
-    go : (b : Bool) → Ok w ≡ unless (cond b (first-failed cs) (Some c)) k (Ok v) → (Ok w ≡ unless (first-failed cs) k (Ok v) → (w ≡ v) × (first-failed (cs ++ rest) ≡ first-failed rest)) → (w ≡ v) × (cond b (first-failed (cs ++ rest)) (Some c) ≡ first-failed rest)
+    go : (b : Bool) → Ok w ≡ unless (cond b (first_failed cs) (Some c)) k (Ok v) → (Ok w ≡ unless (first_failed cs) k (Ok v) → (w ≡ v) × (first_failed (cs ++ rest) ≡ first_failed rest)) → (w ≡ v) × (cond b (first_failed (cs ++ rest)) (Some c) ≡ first_failed rest)
     go true q r = r q
     go false q r = let z : ◌≡◌ {A = ℕ} 0 1 = cc in absurd (omega arith)
 
@@ -31,16 +31,16 @@ module _ {X Y Z : Type 0} (f : X → Y) (v : Vec X Z) where
   pub count_map : length (map f (vec_items v)) ≡ vec_len v
   count_map = length-map (vec_items v) f ∙ sym v.ok.0
 
-  pub none-map : none (map f (vec_items v)) ≡ eqb (vec_len v) 0
-  none-map = none_is (map f (vec_items v)) ∙ ap (λ (n : ℕ). eqb n 0) count_map
+  pub none_map : none (map f (vec_items v)) ≡ eqb (vec_len v) 0
+  none_map = none_is (map f (vec_items v)) ∙ ap (λ (n : ℕ). eqb n 0) count_map
     where
       none_is : (ys : List Y) → none ys ≡ eqb (length ys) 0
       none_is [] = refl
       none_is (y ∷ ys) = sym (ne_eqb (suc (length ys)) 0 (λ e. omega arith))
 
 -- the first checks pass, and one of the others fails
-pub then-stops : {A B : Type 0} (cs rest : List Check) (k : ℕ) (v w : A) (x : Result B TextFault) (f : TextFault) → Ok w ≡ checked cs k v → Err f ≡ unless (first-failed rest) k x → Err f ≡ unless (first-failed (cs ++ rest)) k x
-then-stops cs rest k v w x f ok e = e ∙ ap (λ (o : Option Check). unless o k x) (sym (goes cs rest k v w ok).1)
+pub then_stops : {A B : Type 0} (cs rest : List Check) (k : ℕ) (v w : A) (x : Result B TextFault) (f : TextFault) → Ok w ≡ checked cs k v → Err f ≡ unless (first_failed rest) k x → Err f ≡ unless (first_failed (cs ++ rest)) k x
+then_stops cs rest k v w x f ok e = e ∙ ap (λ (o : Option Check). unless o k x) (sym (goes cs rest k v w ok).1)
 
 -- what the exit of a `?` returns, where the error is passed on as it is
 pub passed_on : {T : Type 0} {f : TextFault} {x : Result T TextFault} (r : Result T TextFault) → IsErrAnd r (λ (e : TextFault). e ≡ f) → Err f ≡ x → r ≡ x

@@ -5,73 +5,73 @@ use Rattle.std.specs.Str.{bytes_eq}
 use Rattle.std.proofs.lemmas.Slice.Eq.{bytes_eq-Decides}
 use Rattle.std.proofs.lemmas.List.{take_rest}
 use Rattle.std.proofs.lemmas.Bool.{cond-true, cond-false, lt-ltb, le-leb, eq-eqb, ne_eqb}
-use Rattle.formats.specs.Words.{is-not, is-allowed, fields, last}
-use Rattle.formats.specs.Texts.{fault, is-text, bad-byte, unless-byte}
+use Rattle.formats.specs.Words.{is_not, is_allowed, fields, last}
+use Rattle.formats.specs.Texts.{fault, is_text, bad_byte, unless_byte}
 use Rattle.formats.specs.declared.fault.TextFault.{TextFault}
 use Rattle.model.specs.declared.refusal.Refusal.TheVariants.{Byte}
 use Rattle.formats.specs.NetClauses.{Shape, shape}
-use Rattle.formats.specs.NetClauses.Shape.{a-place, no_record}
-use Rattle.formats.specs.RulesText.{RuleShape, rule-shape}
-use Rattle.formats.specs.RulesText.RuleShape.{a-fixed, a-rule, neither}
-use Rattle.formats.proofs.Bridges.{last-is, fields-cut, fields-last, bytes-at, bytes-end}
-use Rattle.formats.proofs.Pieces.{fields-some}
-use Rattle.texts.specs.Lines.{bytes-check}
+use Rattle.formats.specs.NetClauses.Shape.{a_place, no_record}
+use Rattle.formats.specs.RulesText.{RuleShape, rule_shape}
+use Rattle.formats.specs.RulesText.RuleShape.{a_fixed, a_rule, neither}
+use Rattle.formats.proofs.Bridges.{last_is, fields_cut, fields_last, bytes_at, bytes_end}
+use Rattle.formats.proofs.Pieces.{fields_some}
+use Rattle.texts.specs.Lines.{bytes_check}
 
 -- ---- a whole text
-pub text_at : (bs : List ℕ) → 0 < length bs → length bs ≤ 16384 → eqb (get_or bs (length bs - 1) 0) 10 ≡ is-text bs
+pub text_at : (bs : List ℕ) → 0 < length bs → length bs ≤ 16384 → eqb (get_or bs (length bs - 1) 0) 10 ≡ is_text bs
 text_at bs some few =
-    ap (λ (b : ℕ). eqb b 10) (sym (last-is bs some))
+    ap (λ (b : ℕ). eqb b 10) (sym (last_is bs some))
     ∙ sym (ap₂ (λ (a b : Bool). a && (b && eqb (last bs) 10)) (lt-ltb 0 (length bs) some) (le-leb (length bs) 16384 few))
 
 -- the byte at i is not allowed
-pub byte-bad : (bs : List ℕ) (k i : ℕ) → bad-byte k i (drop i bs) ≡ bad-byte 1 0 bs → i < length bs → is-allowed (get_or bs i 0) ≡ false → Err (fault Byte k i) ≡ bytes-check bs
-byte-bad bs k i inv l e = sym (ap (λ (o : Option TextFault). unless-byte o (Ok tt)) (sym inv ∙ bytes-at k i bs l ∙ cond-false _ _ _ e))
+pub byte_bad : (bs : List ℕ) (k i : ℕ) → bad_byte k i (drop i bs) ≡ bad_byte 1 0 bs → i < length bs → is_allowed (get_or bs i 0) ≡ false → Err (fault Byte k i) ≡ bytes_check bs
+byte_bad bs k i inv l e = sym (ap (λ (o : Option TextFault). unless_byte o (Ok tt)) (sym inv ∙ bytes_at k i bs l ∙ cond-false _ _ _ e))
 
 -- the byte at i is allowed, and the next line is j
-pub byte-fine : (bs : List ℕ) (k i j : ℕ) → bad-byte k i (drop i bs) ≡ bad-byte 1 0 bs → i < length bs → is-allowed (get_or bs i 0) ≡ true
+pub byte_fine : (bs : List ℕ) (k i j : ℕ) → bad_byte k i (drop i bs) ≡ bad_byte 1 0 bs → i < length bs → is_allowed (get_or bs i 0) ≡ true
     → ((get_or bs i 0 ≡ 10) × (j ≡ k + 1)) ⊎ ((get_or bs i 0 ≡ 10 → ⊥) × (j ≡ k))
-    → bad-byte j (i + 1) (drop (i + 1) bs) ≡ bad-byte 1 0 bs
-byte-fine bs k i j inv l e way =
-    ap (λ (n : ℕ). bad-byte n (i + 1) (drop (i + 1) bs)) (next way) ∙ sym (cond-true _ _ _ e) ∙ sym (bytes-at k i bs l) ∙ inv
+    → bad_byte j (i + 1) (drop (i + 1) bs) ≡ bad_byte 1 0 bs
+byte_fine bs k i j inv l e way =
+    ap (λ (n : ℕ). bad_byte n (i + 1) (drop (i + 1) bs)) (next way) ∙ sym (cond-true _ _ _ e) ∙ sym (bytes_at k i bs l) ∙ inv
   where
     next : ((get_or bs i 0 ≡ 10) × (j ≡ k + 1)) ⊎ ((get_or bs i 0 ≡ 10 → ⊥) × (j ≡ k)) → j ≡ cond (eqb (get_or bs i 0) 10) (k + 1) k
     next (inl h) = h.1 ∙ sym (cond-true _ _ _ (eq-eqb _ 10 h.0))
     next (inr h) = h.1 ∙ sym (cond-false _ _ _ (ne_eqb _ 10 h.0))
 
-pub bytes-fine : (bs : List ℕ) (k i : ℕ) → bad-byte k i (drop i bs) ≡ bad-byte 1 0 bs → length bs ≤ i → Ok tt ≡ bytes-check bs
-bytes-fine bs k i inv l = sym (ap (λ (o : Option TextFault). unless-byte o (Ok tt)) (sym inv ∙ bytes-end k i bs l))
+pub bytes_fine : (bs : List ℕ) (k i : ℕ) → bad_byte k i (drop i bs) ≡ bad_byte 1 0 bs → length bs ≤ i → Ok tt ≡ bytes_check bs
+bytes_fine bs k i inv l = sym (ap (λ (o : Option TextFault). unless_byte o (Ok tt)) (sym inv ∙ bytes_end k i bs l))
 
 -- ---- fields
 -- the field up to the tab at t, and what follows
-pub cut_at : (l : List ℕ) (t : ℕ) → t ≡ 0 + prefix_len (is-not 9) l → t < length l → fields l ≡ take (t - 0) l ∷ fields (take (length l - (t + 1)) (drop (t + 1) l))
+pub cut_at : (l : List ℕ) (t : ℕ) → t ≡ 0 + prefix_len (is_not 9) l → t < length l → fields l ≡ take (t - 0) l ∷ fields (take (length l - (t + 1)) (drop (t + 1) l))
 cut_at l t e h =
-    let q : prefix_len (is-not 9) l ≡ t = omega arith in
-    fields-cut l (omega arith) ∙ ap (λ (k : ℕ). take k l ∷ fields (drop (k + 1) l)) q
+    let q : prefix_len (is_not 9) l ≡ t = omega arith in
+    fields_cut l (omega arith) ∙ ap (λ (k : ℕ). take k l ∷ fields (drop (k + 1) l)) q
     ∙ ap (λ (k : ℕ). take k l ∷ fields (drop (t + 1) l)) (omega arith) ∙ ap (λ (r : List ℕ). take (t - 0) l ∷ fields r) (sym (take_rest l (t + 1)))
 
-pub cut-none : (l : List ℕ) (t : ℕ) → t ≡ 0 + prefix_len (is-not 9) l → t ≤ length l → length l ≤ t → fields l ≡ l ∷ []
-cut-none l t e h g = fields-last l (omega arith)
+pub cut_none : (l : List ℕ) (t : ℕ) → t ≡ 0 + prefix_len (is_not 9) l → t ≤ length l → length l ≤ t → fields l ≡ l ∷ []
+cut_none l t e h g = fields_last l (omega arith)
 
 -- ---- lines of four fields
 module _ (w a b c : List ℕ) where
   abbrev Both : Shape → RuleShape → Type 0
-  Both s r = (shape (w ∷ a ∷ b ∷ c ∷ []) ≡ s) × (rule-shape (w ∷ a ∷ b ∷ c ∷ []) ≡ r)
+  Both s r = (shape (w ∷ a ∷ b ∷ c ∷ []) ≡ s) × (rule_shape (w ∷ a ∷ b ∷ c ∷ []) ≡ r)
 
-  as-word : (word : List ℕ) (s : Shape) (r : RuleShape) → (shape (word ∷ a ∷ b ∷ c ∷ []) ≡ s) × (rule-shape (word ∷ a ∷ b ∷ c ∷ []) ≡ r) → bytes_eq w word ≡ true → Both s r
-  as-word word s r h e = subst (λ (v : List ℕ). (shape (v ∷ a ∷ b ∷ c ∷ []) ≡ s) × (rule-shape (v ∷ a ∷ b ∷ c ∷ []) ≡ r)) (sym ((bytes_eq-Decides w word).0 e)) h
+  as_word : (word : List ℕ) (s : Shape) (r : RuleShape) → (shape (word ∷ a ∷ b ∷ c ∷ []) ≡ s) × (rule_shape (word ∷ a ∷ b ∷ c ∷ []) ≡ r) → bytes_eq w word ≡ true → Both s r
+  as_word word s r h e = subst (λ (v : List ℕ). (shape (v ∷ a ∷ b ∷ c ∷ []) ≡ s) × (rule_shape (v ∷ a ∷ b ∷ c ∷ []) ≡ r)) (sym ((bytes_eq-Decides w word).0 e)) h
 
-  pub four-place : bytes_eq w (codes "place") ≡ true → Both (a-place a b c) neither
-  four-place e = as-word (codes "place") (a-place a b c) neither (refl, refl) e
+  pub four_place : bytes_eq w (codes "place") ≡ true → Both (a_place a b c) neither
+  four_place e = as_word (codes "place") (a_place a b c) neither (refl, refl) e
 
-  pub four-fixed : bytes_eq w (codes "fixed") ≡ true → Both no_record (a-fixed a b c)
-  four-fixed e = as-word (codes "fixed") no_record (a-fixed a b c) (refl, refl) e
+  pub four_fixed : bytes_eq w (codes "fixed") ≡ true → Both no_record (a_fixed a b c)
+  four_fixed e = as_word (codes "fixed") no_record (a_fixed a b c) (refl, refl) e
 
-  pub four-rule : bytes_eq w (codes "rule") ≡ true → Both no_record (a-rule a b c)
-  four-rule e = as-word (codes "rule") no_record (a-rule a b c) (refl, refl) e
+  pub four_rule : bytes_eq w (codes "rule") ≡ true → Both no_record (a_rule a b c)
+  four_rule e = as_word (codes "rule") no_record (a_rule a b c) (refl, refl) e
 
-  pub four-none : bytes_eq w (codes "place") ≡ false → bytes_eq w (codes "fixed") ≡ false → bytes_eq w (codes "rule") ≡ false → Both no_record neither
-  four-none p f r = (cond-false _ _ _ p, cond-false _ _ _ f ∙ cond-false _ _ _ r)
+  pub four_none : bytes_eq w (codes "place") ≡ false → bytes_eq w (codes "fixed") ≡ false → bytes_eq w (codes "rule") ≡ false → Both no_record neither
+  four_none p f r = (cond-false _ _ _ p, cond-false _ _ _ f ∙ cond-false _ _ _ r)
 
 -- ---- lines of more than five
-pub five-more : (w a b c d r : List ℕ) → shape (w ∷ a ∷ b ∷ c ∷ d ∷ fields r) ≡ no_record
-five-more w a b c d r = let s = fields-some r in ap (λ (fs : List (List ℕ)). shape (w ∷ a ∷ b ∷ c ∷ d ∷ fs)) s.2
+pub five_more : (w a b c d r : List ℕ) → shape (w ∷ a ∷ b ∷ c ∷ d ∷ fields r) ≡ no_record
+five_more w a b c d r = let s = fields_some r in ap (λ (fs : List (List ℕ)). shape (w ∷ a ∷ b ∷ c ∷ d ∷ fs)) s.2

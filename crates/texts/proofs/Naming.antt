@@ -3,7 +3,7 @@ use Rattle.std.proofs.Common.{◌≡◌, ℕ, suc, ◌+◌, ◌-◌, ◌<◌, �
 use Rattle.std.specs.Str.{bytes_eq}
 use Rattle.std.proofs.lemmas.List.{take_all, drop_all, length-drop, length-map, get_or-map, at_drop_more, at_drop_all}
 use Rattle.std.proofs.lemmas.Bool.{cases_lt, cond-true, cond-false, lt-ltb, le-ltb}
-use Rattle.formats.specs.Words.{index_of, is_known, is-new}
+use Rattle.formats.specs.Words.{index_of, is_known, is_new}
 use Rattle.texts.specs.Spans.{found}
 
 -- ---- a part of a text, cut to the text
@@ -29,8 +29,8 @@ module _ (ns : List (List ℕ)) (n : List ℕ) (i : ℕ) (inv : index_of ns n �
       let here : index_of ns n ≡ i = inv ∙ ap (λ (k : ℕ). i + k) (at_drop_more (λ (ms : List (List ℕ)). index_of ms n) ns i [] l ∙ cond-true _ _ _ e) ∙ omega arith in
       ap Some (sym here) ∙ sym (cond-true _ _ _ (lt-ltb (index_of ns n) (length ns) (omega arith)))
 
-  found-on : i < length ns → bytes_eq (get_or ns i []) n ≡ false → index_of ns n ≡ i + 1 + index_of (drop (i + 1) ns) n
-  found-on l e =
+  found_on : i < length ns → bytes_eq (get_or ns i []) n ≡ false → index_of ns n ≡ i + 1 + index_of (drop (i + 1) ns) n
+  found_on l e =
       let on : index_of (drop i ns) n ≡ suc (index_of (drop (i + 1) ns) n) = at_drop_more (λ (ms : List (List ℕ)). index_of ms n) ns i [] l ∙ cond-false _ _ _ e in
       omega arith
 
@@ -48,29 +48,29 @@ module _ {X : Type 0} (f : X → List ℕ) (xs : List X) (n : List ℕ) (i : ℕ
     inside : i < length (map f xs)
     inside = omega (arith, length-map xs f)
 
-    pub item-here : true ≡ bytes_eq p n → Some i ≡ found (map f xs) n
-    item-here e = found_here (map f xs) n i inv inside (same_name ∙ sym e)
+    pub item_here : true ≡ bytes_eq p n → Some i ≡ found (map f xs) n
+    item_here e = found_here (map f xs) n i inv inside (same_name ∙ sym e)
 
     pub item_on : false ≡ bytes_eq p n → index_of (map f xs) n ≡ i + 1 + index_of (drop (i + 1) (map f xs)) n
-    item_on e = found-on (map f xs) n i inv inside (same_name ∙ sym e)
+    item_on e = found_on (map f xs) n i inv inside (same_name ∙ sym e)
 
-  pub item-none : length xs ≤ i → None ≡ found (map f xs) n
-  item-none l = found_none (map f xs) n i inv (omega (arith, length-map xs f))
+  pub item_none : length xs ≤ i → None ≡ found (map f xs) n
+  item_none l = found_none (map f xs) n i inv (omega (arith, length-map xs f))
 
 -- ---- a name that none has
-not_known : (ns : List (List ℕ)) (n : List ℕ) → is-new ns n ≡ not (is_known ns n)
+not_known : (ns : List (List ℕ)) (n : List ℕ) → is_new ns n ≡ not (is_known ns n)
 not_known [] n = refl
 not_known (m ∷ ms) n = go (bytes_eq m n) (not_known ms n)
   where
-    go : (b : Bool) → is-new ms n ≡ not (is_known ms n) → (not b && is-new ms n) ≡ not (ltb (cond b 0 (suc (index_of ms n))) (suc (length ms)))
+    go : (b : Bool) → is_new ms n ≡ not (is_known ms n) → (not b && is_new ms n) ≡ not (ltb (cond b 0 (suc (index_of ms n))) (suc (length ms)))
     go true r = ap not (sym (lt-ltb 0 (suc (length ms)) (omega arith)))
     go false r = r ∙ ap not (same_test (index_of ms n) (length ms))
       where
         same_test : (i k : ℕ) → ltb i k ≡ ltb (suc i) (suc k)
         same_test i k = elim (cases_lt i k) [ inl l ↦ lt-ltb i k l ∙ sym (lt-ltb (suc i) (suc k) (omega arith)) | inr l ↦ le-ltb i k l ∙ sym (le-ltb (suc i) (suc k) (omega arith)) ]
 
-pub new-from-none : (ns : List (List ℕ)) (n : List ℕ) (r : Bool) → is_some (found ns n) ≡ not r → r ≡ is-new ns n
-new-from-none ns n r e = sym (not_known ns n ∙ ap not (sym (some (is_known ns n))) ∙ ap not e ∙ twice r)
+pub new_from_none : (ns : List (List ℕ)) (n : List ℕ) (r : Bool) → is_some (found ns n) ≡ not r → r ≡ is_new ns n
+new_from_none ns n r e = sym (not_known ns n ∙ ap not (sym (some (is_known ns n))) ∙ ap not e ∙ twice r)
   where
     some : (b : Bool) → is_some (cond b (Some (index_of ns n)) None) ≡ b
     some true = refl
@@ -81,15 +81,15 @@ new-from-none ns n r e = sym (not_known ns n ∙ ap not (sym (some (is_known ns 
     twice false = refl
 
 -- none of two lists of names
-pub new-append : (ms ns : List (List ℕ)) (n : List ℕ) → is-new (ms ++ ns) n ≡ (is-new ms n && is-new ns n)
-new-append [] ns n = refl
-new-append (m ∷ ms) ns n = go (not (bytes_eq m n)) (new-append ms ns n)
+pub new_append : (ms ns : List (List ℕ)) (n : List ℕ) → is_new (ms ++ ns) n ≡ (is_new ms n && is_new ns n)
+new_append [] ns n = refl
+new_append (m ∷ ms) ns n = go (not (bytes_eq m n)) (new_append ms ns n)
   where
-    go : (b : Bool) → is-new (ms ++ ns) n ≡ (is-new ms n && is-new ns n) → (b && is-new (ms ++ ns) n) ≡ ((b && is-new ms n) && is-new ns n)
+    go : (b : Bool) → is_new (ms ++ ns) n ≡ (is_new ms n && is_new ns n) → (b && is_new (ms ++ ns) n) ≡ ((b && is_new ms n) && is_new ns n)
     go true r = r
     go false r = refl
 
 -- one map after another
-pub map-map : {X Y Z : Type 0} (g : Y → Z) (f : X → Y) (xs : List X) → map g (map f xs) ≡ map (λ x. g (f x)) xs
-map-map g f [] = refl
-map-map g f (x ∷ xs) = ap (λ zs. g (f x) ∷ zs) (map-map g f xs)
+pub map_map : {X Y Z : Type 0} (g : Y → Z) (f : X → Y) (xs : List X) → map g (map f xs) ≡ map (λ x. g (f x)) xs
+map_map g f [] = refl
+map_map g f (x ∷ xs) = ap (λ zs. g (f x) ∷ zs) (map_map g f xs)

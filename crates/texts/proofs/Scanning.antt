@@ -3,33 +3,33 @@ use Rattle.std.proofs.Common.{◌≡◌, ℕ, ◌+◌, ◌-◌, ◌*◌, ◌^◌
 use native.Mathlib.Nat.{pow-le-pow_right}
 use Rattle.std.proofs.lemmas.List.{at_drop_more, at_drop_all, take_rest}
 use Rattle.std.proofs.lemmas.Bool.{and_left, false≢true}
-use Rattle.formats.specs.Words.{is-letter, is_name, all}
-use Rattle.texts.specs.Numbers.{is_word, most-digits}
+use Rattle.formats.specs.Words.{is_letter, is_name, all}
+use Rattle.texts.specs.Numbers.{is_word, most_digits}
 
 -- f says that p holds of each element; an index comes as far as f of what is left is f of the whole
 module _ {X : Type 0} (p : X → Bool) (f : List X → Bool) (none : f [] ≡ true) (more : (x : X) (xs : List X) → f (x ∷ xs) ≡ (p x && f xs)) where
   at_each : (xs : List X) (i : ℕ) (d : X) → i < length xs → f (drop i xs) ≡ (p (get_or xs i d) && f (drop (i + 1) xs))
   at_each xs i d l = at_drop_more f xs i d l ∙ more (get_or xs i d) (drop (i + 1) xs)
 
-  pub each-stops : (xs : List X) (i : ℕ) (d : X) → i < length xs → f (drop i xs) ≡ f xs → p (get_or xs i d) ≡ false → f xs ≡ false
-  each-stops xs i d l inv e = sym inv ∙ at_each xs i d l ∙ and_left (p (get_or xs i d)) (f (drop (i + 1) xs)) e
+  pub each_stops : (xs : List X) (i : ℕ) (d : X) → i < length xs → f (drop i xs) ≡ f xs → p (get_or xs i d) ≡ false → f xs ≡ false
+  each_stops xs i d l inv e = sym inv ∙ at_each xs i d l ∙ and_left (p (get_or xs i d)) (f (drop (i + 1) xs)) e
 
   pub each_goes : (xs : List X) (i : ℕ) (d : X) → i < length xs → f (drop i xs) ≡ f xs → p (get_or xs i d) ≡ true → f (drop (i + 1) xs) ≡ f xs
   each_goes xs i d l inv e = sym (ap (λ (b : Bool). b && f (drop (i + 1) xs)) e) ∙ sym (at_each xs i d l) ∙ inv
 
-  pub each-ends : (xs : List X) (i : ℕ) → length xs ≤ i → f (drop i xs) ≡ f xs → f xs ≡ true
-  each-ends xs i l inv = sym inv ∙ at_drop_all f xs i l ∙ none
+  pub each_ends : (xs : List X) (i : ℕ) → length xs ≤ i → f (drop i xs) ≡ f xs → f xs ≡ true
+  each_ends xs i l inv = sym inv ∙ at_drop_all f xs i l ∙ none
 
 -- one digit more
-pub power-more : (v d i : ℕ) → v < 10 ^ i → d ≤ 9 → v * 10 + d < 10 ^ (i + 1)
-power-more v d i h small = omega (arith, ap (λ (k : ℕ). 10 ^ k) (add-one i), pow-suc 10 i)
+pub power_more : (v d i : ℕ) → v < 10 ^ i → d ≤ 9 → v * 10 + d < 10 ^ (i + 1)
+power_more v d i h small = omega (arith, ap (λ (k : ℕ). 10 ^ k) (add-one i), pow-suc 10 i)
 
-pub power-most : (i : ℕ) → i < most-digits → 10 ^ i ≤ 100000000
-power-most i h = let le : i ≤ 8 = omega arith in pow-le-pow_right (omega arith) le
+pub power_most : (i : ℕ) → i < most_digits → 10 ^ i ≤ 100000000
+power_most i h = let le : i ≤ 8 = omega arith in pow-le-pow_right (omega arith) le
 
 -- a letter with a tail is a name
-pub name-rest : (f : List ℕ) (r : Bool) → is-letter (get_or f 0 0) ≡ true → r ≡ (all is_word (take (length f - 1) (drop 1 f)) && leb (length (take (length f - 1) (drop 1 f))) 11) → r ≡ is_name f
-name-rest [] r e q = absurd (false≢true e)
-name-rest (b ∷ bs) r e q =
+pub name_rest : (f : List ℕ) (r : Bool) → is_letter (get_or f 0 0) ≡ true → r ≡ (all is_word (take (length f - 1) (drop 1 f)) && leb (length (take (length f - 1) (drop 1 f))) 11) → r ≡ is_name f
+name_rest [] r e q = absurd (false≢true e)
+name_rest (b ∷ bs) r e q =
     q ∙ ap (λ (t : List ℕ). all is_word t && leb (length t) 11) (take_rest (b ∷ bs) 1)
     ∙ sym (ap (λ (l : Bool). l && (all is_word bs && leb (length bs) 11)) e)

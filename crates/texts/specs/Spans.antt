@@ -4,11 +4,11 @@
 --   found ns n       the index of the name n in the names ns, if one of them is n
 --   checked cs k v   v, unless one of the checks cs fails on line k
 --   Told r P Q       r is an answer a with P a, or a refusal f with Q f; nothing is said where there was no memory
---   line-start bs i  the byte where line i of the text bs starts, lines counted from 0
+--   line_start bs i  the byte where line i of the text bs starts, lines counted from 0
 use Rattle.std.specs.Prelude.{ℕ, cond, List, length, take, drop, Some, None, Ok, Err, Option, Result}
 use Rattle.formats.specs.Words.{is_known, index_of, lines, unlines}
 use Rattle.formats.specs.declared.fault.TextFault.{TextFault}
-use Rattle.formats.specs.Texts.{Check, first-failed, unless}
+use Rattle.formats.specs.Texts.{Check, first_failed, unless}
 use Rattle.texts.specs.declared.span.Span.{Span}
 use Rattle.texts.specs.declared.stop.ReadError.{ReadError}
 use Rattle.texts.specs.declared.stop.ReadError.TheVariants.{Refused, NoMemory}
@@ -23,12 +23,12 @@ abbrev pub found : List (List ℕ) → List ℕ → Option ℕ
 found ns n = cond (is_known ns n) (Some (index_of ns n)) None
 
 abbrev pub checked : {A : Type 0} → List Check → ℕ → A → Result A TextFault
-checked cs k v = unless (first-failed cs) k (Ok v)
+checked cs k v = unless (first_failed cs) k (Ok v)
 
 abbrev pub Told : {A : Type 0} → Result A ReadError → (A → Type 0) → (TextFault → Type 0) → Type 0
 Told (Ok a) P Q = P a
 Told (Err (Refused f)) P Q = Q f
 Told (Err NoMemory) P Q = Unit {0}
 
-abbrev pub line-start : List ℕ → ℕ → ℕ
-line-start bs i = length (unlines (take i (lines bs)))
+abbrev pub line_start : List ℕ → ℕ → ℕ
+line_start bs i = length (unlines (take i (lines bs)))

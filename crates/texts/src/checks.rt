@@ -1,10 +1,10 @@
 // The checks of a line's fields, each with the refusal and the byte if it fails.
 ghost use Rattle.std.specs.Prelude.{◌≡◌, min, [], ◌∷◌, map};
 ghost use Rattle.model.specs.declared.refusal.Refusal.TheVariants.{Field};
-ghost use Rattle.formats.specs.Words.{is-numeral, value, index_of};
+ghost use Rattle.formats.specs.Words.{is_numeral, value, index_of};
 ghost use Rattle.formats.specs.Texts.{check, fault};
-ghost use Rattle.formats.specs.ReadNet.{known-checks};
-ghost use Rattle.texts.specs.Numbers.{most-digits};
+ghost use Rattle.formats.specs.ReadNet.{known_checks};
+ghost use Rattle.texts.specs.Numbers.{most_digits};
 ghost use Rattle.texts.specs.Spans.{part_of, checked};
 
 use crate::at::At;
@@ -38,7 +38,7 @@ impl At {
 
     // The number of a field of at most `digits` digits.
     pub fn number(self, field: &[u8], digits: usize, byte: usize) -> Result<u32, TextFault>
-        ensures { result ≡ checked (check (is-numeral (min digits most-digits) field.now) Field byte ∷ []) self.line (value field.now) }
+        ensures { result ≡ checked (check (is_numeral (min digits most_digits) field.now) Field byte ∷ []) self.line (value field.now) }
     {
         match number(field, digits) {
             Some(n) => Ok(n),
@@ -54,7 +54,7 @@ impl At {
         field: &[u8],
         byte: usize,
     ) -> Result<usize, TextFault>
-        ensures { result ≡ checked (known-checks (map (λ x. part_of text.now (N.Named.title x)) items.now) byte field.now) self.line (index_of (map (λ x. part_of text.now (N.Named.title x)) items.now) field.now) }
+        ensures { result ≡ checked (known_checks (map (λ x. part_of text.now (N.Named.title x)) items.now) byte field.now) self.line (index_of (map (λ x. part_of text.now (N.Named.title x)) items.now) field.now) }
     {
         self.check(is_name(field), Refusal::Field, byte)?;
         match find(items, text, field) {

@@ -1,11 +1,11 @@
 // What every text must be, its lines, and the record of a line.
 ghost use Rattle.std.specs.Prelude.{◌≡◌, ℕ, ◌+◌, ◌<◌, ◌≤◌, [], ◌∷◌, length, ◌==◌};
 ghost use Rattle.std.specs.Option.{option_map};
-ghost use Rattle.formats.specs.Words.{is-allowed, fields};
-ghost use Rattle.formats.specs.Texts.{is-text, fault};
+ghost use Rattle.formats.specs.Words.{is_allowed, fields};
+ghost use Rattle.formats.specs.Texts.{is_text, fault};
 ghost use Rattle.formats.specs.NetClauses.{shape};
-ghost use Rattle.formats.specs.RulesText.{rule-shape};
-ghost use Rattle.texts.specs.Lines.{bytes-check, text-check, rest-fields, LineRead};
+ghost use Rattle.formats.specs.RulesText.{rule_shape};
+ghost use Rattle.texts.specs.Lines.{bytes_check, text_check, rest_fields, LineRead};
 
 use crate::at::At;
 use crate::record::Record;
@@ -22,7 +22,7 @@ fn is_newline(b: u8) -> bool
 
 // A text has at least one byte, at most `MOST_BYTES`, and ends in a newline.
 fn is_text(text: &[u8]) -> bool
-    ensures { result ≡ is-text text.now }
+    ensures { result ≡ is_text text.now }
 {
     if text.is_empty() || text.len() > MOST_BYTES {
         return false;
@@ -31,14 +31,14 @@ fn is_text(text: &[u8]) -> bool
 }
 
 fn is_allowed(b: u8) -> bool
-    ensures { result ≡ is-allowed b }
+    ensures { result ≡ is_allowed b }
 {
     b == b'\t' || b == b'\n' || (33 <= b && b <= 126)
 }
 
 // Refuses the first byte that no text may have.
 fn check_bytes(text: &[u8]) -> Result<(), TextFault>
-    ensures { result ≡ bytes-check text.now }
+    ensures { result ≡ bytes_check text.now }
 {
     let mut line = 1;
     for (i, b) in text.iter().enumerate() {
@@ -58,7 +58,7 @@ fn check_bytes(text: &[u8]) -> Result<(), TextFault>
 
 // The checks of a whole text, before any of its lines is read.
 pub fn check_text(text: &[u8]) -> Result<(), TextFault>
-    ensures { result ≡ text-check text.now }
+    ensures { result ≡ text_check text.now }
 {
     if !is_text(text) {
         return Err(TextFault {
@@ -72,7 +72,7 @@ pub fn check_text(text: &[u8]) -> Result<(), TextFault>
 
 // The first field of a line and, if a tab ends it, what follows.
 pub fn cut<'a>(line: &'a [u8]) -> (&'a [u8], Option<&'a [u8]>)
-    ensures { fields line.now ≡ result.0.now ∷ rest-fields (option_map (λ x. x.now) result.1) }
+    ensures { fields line.now ≡ result.0.now ∷ rest_fields (option_map (λ x. x.now) result.1) }
 {
     let tab = until(line, 0, b'\t');
     if tab < line.len() {

@@ -1,6 +1,6 @@
 // Looking names up.
 ghost use Rattle.std.specs.Prelude.{◌≡◌, ℕ, ◌+◌, ◌<◌, ◌≤◌, map, length, IfSome};
-ghost use Rattle.formats.specs.Words.{is-new};
+ghost use Rattle.formats.specs.Words.{is_new};
 ghost use Rattle.texts.specs.Spans.{part_of, found};
 ghost use Rattle.texts.specs.declared.span.Span.{Span};
 
@@ -39,7 +39,7 @@ pub fn find<N: Named>(items: &[N], text: &[u8], name: &[u8]) -> Option<usize>
 
 // Whether no item has the name.
 pub fn lacks<N: Named>(items: &[N], text: &[u8], name: &[u8]) -> bool
-    ensures { result ≡ is-new (map (λ x. part_of text.now (N.Named.title x)) items.now) name.now }
+    ensures { result ≡ is_new (map (λ x. part_of text.now (N.Named.title x)) items.now) name.now }
 {
     find(items, text, name).is_none()
 }

@@ -2,9 +2,9 @@
 ghost use Rattle.std.specs.Prelude.{◌≡◌, ℕ, ◌+◌, ◌<◌, ◌≤◌, min, ◌&&◌, length, drop, nat_le};
 ghost use Rattle.std.specs.List.{prefix_len};
 ghost use Rattle.std.specs.Str.{bytes_eq};
-ghost use Rattle.model.specs.Sizes.{name-tail};
-ghost use Rattle.formats.specs.Words.{is-letter, is_digit, is_name, is-not, all};
-ghost use Rattle.texts.specs.Numbers.{is_word, digits_of, number_of, most-digits};
+ghost use Rattle.model.specs.Sizes.{name_tail};
+ghost use Rattle.formats.specs.Words.{is_letter, is_digit, is_name, is_not, all};
+ghost use Rattle.texts.specs.Numbers.{is_word, digits_of, number_of, most_digits};
 
 // The most digits of which every number fits 32 bits.
 pub const MOST_DIGITS: usize = 9;
@@ -18,7 +18,7 @@ pub fn same(a: &[u8], b: &[u8]) -> bool
 
 // Where the byte `b` first stands from `start` on; the end of the text, or `start` beyond it, if nowhere.
 pub fn until(text: &[u8], start: usize, b: u8) -> usize
-    ensures value { result ≡ start + prefix_len (is-not b) (drop start text.now) }
+    ensures value { result ≡ start + prefix_len (is_not b) (drop start text.now) }
     ensures within { start ≤ length text.now → result ≤ length text.now }
 {
     let mut end = start;
@@ -29,7 +29,7 @@ pub fn until(text: &[u8], start: usize, b: u8) -> usize
 }
 
 pub fn is_letter(b: u8) -> bool
-    ensures { result ≡ is-letter b }
+    ensures { result ≡ is_letter b }
 {
     (b'A' <= b && b <= b'Z') || (b'a' <= b && b <= b'z')
 }
@@ -60,7 +60,7 @@ fn all_word(bytes: &[u8]) -> bool
 
 // What may follow the first letter of a name.
 fn is_tail(rest: &[u8]) -> bool
-    ensures { result ≡ (all is_word rest.now && nat_le (length rest.now) name-tail) }
+    ensures { result ≡ (all is_word rest.now && nat_le (length rest.now) name_tail) }
 {
     all_word(rest) && rest.len() <= 11
 }
@@ -80,7 +80,7 @@ pub fn is_name(field: &[u8]) -> bool
 
 // The number that a few digits write; none where a byte is no digit.
 fn digits_value(field: &[u8]) -> Option<u32>
-    requires { length field.now ≤ most-digits }
+    requires { length field.now ≤ most_digits }
     ensures { result ≡ digits_of field.now }
 {
     let mut value = 0;
@@ -96,7 +96,7 @@ fn digits_value(field: &[u8]) -> Option<u32>
 // The number that the field writes, if it is one of at most `digits` digits: no leading zero, except 0 itself. Never more than
 // `MOST_DIGITS` are read.
 pub fn number(field: &[u8], digits: usize) -> Option<u32>
-    ensures { result ≡ number_of (min digits most-digits) field.now }
+    ensures { result ≡ number_of (min digits most_digits) field.now }
 {
     match field {
         [] => None,

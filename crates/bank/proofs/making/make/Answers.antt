@@ -2,7 +2,7 @@ use Rattle.std.proofs.Common.{◌≡◌, List, length, Some, vec_items, subst, r
 use Rattle.net_text.specs.declared.net.Place.{Place}
 use Rattle.net_text.specs.declared.net.Move.{Move}
 use Rattle.bank.specs.Making.{TokensRead, LettersRead, Shaped}
-use Rattle.bank.proofs.Building.{made-net, made-tokens}
+use Rattle.bank.proofs.Building.{made_net, made_tokens}
 use Rattle.bank.proofs.making.make.Goals as goal
 
 pub returns : goal.returns
@@ -18,7 +18,7 @@ returns c =
     let counted : c.len.result ≡ length ps = search rules in (
       record { shaped = shaped; single = read.0 },
       record {
-        net = made-net c.len.result letters (length ps) ms counted shaped.moves lettered;
-        tokens = made-tokens tokens ps read.1 read.2;
+        net = made_net c.len.result letters (length ps) ms counted shaped.moves lettered;
+        tokens = made_tokens tokens ps read.1 read.2;
       },
     )

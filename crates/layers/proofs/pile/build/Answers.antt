@@ -1,29 +1,29 @@
 use Rattle.std.proofs.Common.{refl, ap, ◌∙◌, subst}
 use Rattle.std.proofs.lemmas.Result.{err_from_is_err_and}
-use Rattle.model.specs.Layer.{Pile, monitor-answer}
-use Rattle.rules.specs.Rules.{rule-of}
-use Rattle.layers.specs.Piles.{monitor-pile, stack-pile}
+use Rattle.model.specs.Layer.{Pile, monitor_answer}
+use Rattle.rules.specs.Rules.{rule_of}
+use Rattle.layers.specs.Piles.{monitor_pile, stack_pile}
 use Rattle.layers.specs.Setting.{SetTo}
 use Rattle.layers.proofs.Stacking.{stacked}
 use Rattle.layers.proofs.pile.build.Goals as goal
 
 pub returns-in_err-set : goal.returns-in_err-set
 returns-in_err-set g c =
-    let typed = rule-of c.args.fixed.now in
+    let typed = rule_of c.args.fixed.now in
     let e = err_from_is_err_and c.from_residual.result c.from_residual.ensures.1 in
     rw (e.1, e.2)
-    (record { answer = c.in_err-set.ensures.answer ∙ ap (λ (p : Pile). monitor-answer p typed) c.new-monitor.ensures.fresh.pile; kept = tt; pile = tt })
+    (record { answer = c.in_err-set.ensures.answer ∙ ap (λ (p : Pile). monitor_answer p typed) c.new-monitor.ensures.fresh.pile; kept = tt; pile = tt })
 
 pub returns : goal.returns
 returns g c =
-    let typed = rule-of c.args.fixed.now in
+    let typed = rule_of c.args.fixed.now in
     let new = c.new-monitor.ensures.fresh.pile in
     let set = c.in_ok-set.ensures in
-    let ok = set.answer ∙ ap (λ (p : Pile). monitor-answer p typed) new in
-    let after = monitor-pile g.P.Net.net g.P.Plant.tokens c.set.new.self in
+    let ok = set.answer ∙ ap (λ (p : Pile). monitor_answer p typed) new in
+    let after = monitor_pile g.P.Net.net g.P.Plant.tokens c.set.new.self in
     record {
       answer = ok;
       kept = ap (λ s. s.below) c.new.ensures.below ∙ set.below ∙ c.new-monitor.ensures.below;
       pile = stacked (g.P.Net.net c.args.plant) (g.P.Plant.tokens c.args.plant) typed (g.met.P.Net.sound c.args.plant) (g.met.P.Plant.within c.args.plant) after
-          (stack-pile g.P.Net.net g.P.Plant.tokens c.new.result) ok (subst (λ (p : Pile). SetTo p after 0 typed) new (set.set refl)) c.new.ensures.fresh.pile;
+          (stack_pile g.P.Net.net g.P.Plant.tokens c.new.result) ok (subst (λ (p : Pile). SetTo p after 0 typed) new (set.set refl)) c.new.ensures.fresh.pile;
     }

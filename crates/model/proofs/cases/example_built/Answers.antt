@@ -1,5 +1,5 @@
 use Rattle.model.proofs.cases.example_built.Goals as goal
-use Rattle.model.proofs.Computed.{example-built}
+use Rattle.model.proofs.Computed.{example_built}
 
 pub returns : goal.returns
-returns c = example-built
+returns c = example_built

@@ -1,5 +1,5 @@
 use Rattle.model.proofs.laws.answers_all.Goals as goal
-use Rattle.model.proofs.Standing.{answers-all}
+use Rattle.model.proofs.Standing.{answers_all}
 
 pub returns : goal.returns
-returns c = answers-all
+returns c = answers_all

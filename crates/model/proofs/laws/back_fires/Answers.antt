@@ -1,5 +1,5 @@
 use Rattle.model.proofs.laws.back_fires.Goals as goal
-use Rattle.model.proofs.Firing.{back-fires}
+use Rattle.model.proofs.Firing.{back_fires}
 
 pub returns : goal.returns
-returns c = back-fires
+returns c = back_fires

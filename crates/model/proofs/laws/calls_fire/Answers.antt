@@ -1,5 +1,5 @@
 use Rattle.model.proofs.laws.calls_fire.Goals as goal
-use Rattle.model.proofs.CallsFire.{calls-fire}
+use Rattle.model.proofs.CallsFire.{calls_fire}
 
 pub returns : goal.returns
-returns c = calls-fire
+returns c = calls_fire

@@ -1,5 +1,5 @@
 use Rattle.model.proofs.laws.divisor_gcd.Goals as goal
-use Rattle.model.proofs.Rounds.{divisor-gcd}
+use Rattle.model.proofs.Rounds.{divisor_gcd}
 
 pub returns : goal.returns
-returns c = divisor-gcd
+returns c = divisor_gcd

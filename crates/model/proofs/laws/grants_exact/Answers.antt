@@ -1,5 +1,5 @@
 use Rattle.model.proofs.laws.grants_exact.Goals as goal
-use Rattle.model.proofs.Exact.{grants-exact}
+use Rattle.model.proofs.Exact.{grants_exact}
 
 pub returns : goal.returns
-returns c = grants-exact
+returns c = grants_exact

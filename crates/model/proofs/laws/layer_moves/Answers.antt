@@ -1,5 +1,5 @@
 use Rattle.model.proofs.laws.layer_moves.Goals as goal
-use Rattle.model.proofs.LayerCalls.{layer-moves}
+use Rattle.model.proofs.LayerCalls.{layer_moves}
 
 pub returns : goal.returns
-returns c = layer-moves
+returns c = layer_moves

@@ -1,5 +1,5 @@
 use Rattle.model.proofs.laws.refused_still.Goals as goal
-use Rattle.model.proofs.Standing.{refused-still}
+use Rattle.model.proofs.Standing.{refused_still}
 
 pub returns : goal.returns
-returns c = refused-still
+returns c = refused_still

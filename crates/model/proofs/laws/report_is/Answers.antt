@@ -1,5 +1,5 @@
 use Rattle.model.proofs.laws.report_is.Goals as goal
-use Rattle.model.proofs.Standing.{report-is}
+use Rattle.model.proofs.Standing.{report_is}
 
 pub returns : goal.returns
-returns c = report-is
+returns c = report_is

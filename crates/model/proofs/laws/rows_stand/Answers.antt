@@ -1,5 +1,5 @@
 use Rattle.model.proofs.laws.rows_stand.Goals as goal
-use Rattle.model.proofs.RowsStand.{rows-stand}
+use Rattle.model.proofs.RowsStand.{rows_stand}
 
 pub returns : goal.returns
-returns c = rows-stand
+returns c = rows_stand

@@ -1,5 +1,5 @@
 use Rattle.model.proofs.laws.state_equation.Goals as goal
-use Rattle.model.proofs.StateEquation.{state-equation}
+use Rattle.model.proofs.StateEquation.{state_equation}
 
 pub returns : goal.returns
-returns c = state-equation
+returns c = state_equation

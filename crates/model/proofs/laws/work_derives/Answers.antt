@@ -1,5 +1,5 @@
 use Rattle.model.proofs.laws.work_derives.Goals as goal
-use Rattle.model.proofs.Standing.{work-derives}
+use Rattle.model.proofs.Standing.{work_derives}
 
 pub returns : goal.returns
-returns c = work-derives
+returns c = work_derives

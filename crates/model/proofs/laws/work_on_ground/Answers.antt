@@ -1,5 +1,5 @@
 use Rattle.model.proofs.laws.work_on_ground.Goals as goal
-use Rattle.model.proofs.Standing.{work-on-ground}
+use Rattle.model.proofs.Standing.{work_on_ground}
 
 pub returns : goal.returns
-returns c = work-on-ground
+returns c = work_on_ground

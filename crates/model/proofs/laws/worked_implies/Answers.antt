@@ -1,5 +1,5 @@
 use Rattle.model.proofs.laws.worked_implies.Goals as goal
-use Rattle.model.proofs.Standing.{worked-implies}
+use Rattle.model.proofs.Standing.{worked_implies}
 
 pub returns : goal.returns
-returns c = worked-implies
+returns c = worked_implies

@@ -1,5 +1,5 @@
 use Rattle.model.proofs.laws.working_says.Goals as goal
-use Rattle.model.proofs.Rounds.{working-says}
+use Rattle.model.proofs.Rounds.{working_says}
 
 pub returns : goal.returns
-returns c = working-says
+returns c = working_says

@@ -1,32 +1,32 @@
-use Rattle.net_text.specs.Nets.{net-of}
+use Rattle.net_text.specs.Nets.{net_of}
 use Rattle.texts.proofs.Checking.{passed_on}
-use Rattle.net_text.proofs.ArcLines.{no_place, no_move, no-weights, no-pair, arc-fits}
+use Rattle.net_text.proofs.ArcLines.{no_place, no_move, no_weights, no_pair, arc_fits}
 use Rattle.net_text.proofs.read.read_arc.Goals as goal
 
 pub returns-in_err-p : goal.returns-in_err-p
 returns-in_err-p c =
     passed_on c.from_residual.result c.from_residual.ensures.1
-    (no_place (net-of c.args.text.now c.args.net.now) c.args.at.byte c.args.at.line c.args.place.now c.args.transition.now c.args.take.now c.args.give.now _ c.in_err-p.ensures)
+    (no_place (net_of c.args.text.now c.args.net.now) c.args.at.byte c.args.at.line c.args.place.now c.args.transition.now c.args.take.now c.args.give.now _ c.in_err-p.ensures)
 
 pub returns-in_err-t : goal.returns-in_err-t
 returns-in_err-t c =
     passed_on c.from_residual-in_err-t.result c.from_residual-in_err-t.ensures.1
-    (no_move (net-of c.args.text.now c.args.net.now) c.args.at.byte c.args.at.line c.args.place.now c.args.transition.now c.args.take.now c.args.give.now
+    (no_move (net_of c.args.text.now c.args.net.now) c.args.at.byte c.args.at.line c.args.place.now c.args.transition.now c.args.take.now c.args.give.now
     _ c.in_ok-p.ensures _ c.in_err-t.ensures)
 
 pub returns-in_err-take : goal.returns-in_err-take
 returns-in_err-take c =
     passed_on c.from_residual-in_err-take.result c.from_residual-in_err-take.ensures.1
-    (no-weights (net-of c.args.text.now c.args.net.now) c.args.at.byte c.args.at.line c.args.place.now c.args.transition.now c.args.take.now c.args.give.now
+    (no_weights (net_of c.args.text.now c.args.net.now) c.args.at.byte c.args.at.line c.args.place.now c.args.transition.now c.args.take.now c.args.give.now
     _ c.in_ok-p.ensures _ c.in_ok-t.ensures _ c.in_err-take.ensures)
 
 pub returns-in_err-check_pair : goal.returns-in_err-check_pair
 returns-in_err-check_pair c =
     passed_on c.from_residual-in_err-check_pair.result c.from_residual-in_err-check_pair.ensures.1
-    (no-pair (net-of c.args.text.now c.args.net.now) c.args.at.byte c.args.at.line c.args.place.now c.args.transition.now c.args.take.now c.args.give.now
+    (no_pair (net_of c.args.text.now c.args.net.now) c.args.at.byte c.args.at.line c.args.place.now c.args.transition.now c.args.take.now c.args.give.now
     _ c.in_ok-p.ensures _ c.in_ok-t.ensures _ c.in_ok-take.ensures _ (c.in_err-check_pair.ensures c.args.text.now))
 
 pub returns : goal.returns
 returns c =
-    arc-fits (net-of c.args.text.now c.args.net.now) c.args.at.byte c.args.at.line c.args.place.now c.args.transition.now c.args.take.now c.args.give.now
+    arc_fits (net_of c.args.text.now c.args.net.now) c.args.at.byte c.args.at.line c.args.place.now c.args.transition.now c.args.take.now c.args.give.now
     _ c.in_ok-p.ensures _ c.in_ok-t.ensures _ c.in_ok-take.ensures (c.in_ok-check_pair.ensures c.args.text.now)

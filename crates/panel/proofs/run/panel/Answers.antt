@@ -1,35 +1,35 @@
 use Rattle.std.proofs.Common.{◌≡◌, ℕ, List, ◌++◌, Result, Ok, sym, ap, ◌∙◌, subst}
 use Rattle.formats.specs.declared.fault.TextFault.{TextFault}
-use Rattle.formats.specs.NetText.{NetText, names, place-names}
-use Rattle.formats.specs.RulesText.{RulesText, read-rules}
-use Rattle.formats.proofs.NetLaws.{net-exact}
+use Rattle.formats.specs.NetText.{NetText, names, place_names}
+use Rattle.formats.specs.RulesText.{RulesText, read_rules}
+use Rattle.formats.proofs.NetLaws.{net_exact}
 use Rattle.formats.proofs.RulesLaws.{rules_exact}
-use Rattle.net_text.specs.Nets.{net-of}
-use Rattle.panel.specs.Cells.{cell-of}
+use Rattle.net_text.specs.Nets.{net_of}
+use Rattle.panel.specs.Cells.{cell_of}
 use Rattle.panel.specs.Orders.{Started}
-use Rattle.panel.specs.Run.{by-rules, by-net}
-use Rattle.panel.proofs.Started.{only-one, not-both}
+use Rattle.panel.specs.Run.{by_rules, by_net}
+use Rattle.panel.proofs.Started.{only_one, not_both}
 use Rattle.panel.proofs.run.panel.Goals as goal
 
 pub returns-in_ok-run_rules-in-Ok-clause-proper : goal.returns-in_ok-run_rules-in-Ok-clause-proper
 returns-in_ok-run_rules-in-Ok-clause-proper c = λ x y p w q v.
-    let read : NetText = net-of c.args.net.now c.in-Ok.read in
-    let by = λ (r : Result NetText TextFault). by-net r c.args.rules.now c.args.orders.now in
+    let read : NetText = net_of c.args.net.now c.in-Ok.read in
+    let by = λ (r : Result NetText TextFault). by_net r c.args.rules.now c.args.orders.now in
     c.in_ok-run_rules-in-Ok.ensures.printed
-    ∙ ap (λ (o : List ℕ). o ++ by-rules read (read-rules (names read) (place-names read) c.args.rules.now) c.args.orders.now) c.new-out.ensures.items
+    ∙ ap (λ (o : List ℕ). o ++ by_rules read (read_rules (names read) (place_names read) c.args.rules.now) c.args.orders.now) c.new-out.ensures.items
     ∙ sym (ap by c.in-Ok.ensures.answer)
-    ∙ ap by ((net-exact c.args.net.now x).1 p w)
-    ∙ ap (λ (r : Result RulesText TextFault). by-rules x r c.args.orders.now) ((rules_exact x p.right c.args.rules.now y).1 q v)
+    ∙ ap by ((net_exact c.args.net.now x).1 p w)
+    ∙ ap (λ (r : Result RulesText TextFault). by_rules x r c.args.orders.now) ((rules_exact x p.right c.args.rules.now y).1 q v)
 
 pub returns-in_ok-run_rules-in-Ok-clause-built : goal.returns-in_ok-run_rules-in-Ok-clause-built
 returns-in_ok-run_rules-in-Ok-clause-built c = λ x y p w q v.
-    let read : NetText = net-of c.args.net.now c.in-Ok.read in
-    let same : read ≡ x = only-one (sym c.in-Ok.ensures.answer ∙ (net-exact c.args.net.now x).1 p w) in
-    subst (λ (n : NetText). read-rules (names n) (place-names n) c.args.rules.now ≡ Ok y → Started (cell-of n y) c.args.orders.now) same
+    let read : NetText = net_of c.args.net.now c.in-Ok.read in
+    let same : read ≡ x = only_one (sym c.in-Ok.ensures.answer ∙ (net_exact c.args.net.now x).1 p w) in
+    subst (λ (n : NetText). read_rules (names n) (place_names n) c.args.rules.now ≡ Ok y → Started (cell_of n y) c.args.orders.now) same
     (c.in_ok-run_rules-in-Ok.ensures.built y)
     ((rules_exact x p.right c.args.rules.now y).1 q v)
 
 pub returns-in_ok-put_bad-in-Err-Refused-clause-built : goal.returns-in_ok-put_bad-in-Err-Refused-clause-built
 returns-in_ok-put_bad-in-Err-Refused-clause-built c = λ x y p w q v.
     let refused = rw c.in-Err-Refused.field-0-is at c.in-Err-Refused.ensures.answer in
-    absurd (not-both (sym refused ∙ (net-exact c.args.net.now x).1 p w))
+    absurd (not_both (sym refused ∙ (net_exact c.args.net.now x).1 p w))

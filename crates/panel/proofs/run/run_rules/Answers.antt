@@ -1,34 +1,34 @@
 use Rattle.std.proofs.Common.{◌≡◌, ℕ, ◌≤◌, List, ◌++◌, length, vec_items, Result, sym, ap, ◌∙◌, subst, arith}
 use Rattle.std.specs.Prelude.{OnOk}
 use Rattle.std.proofs.lemmas.List.{length-map}
-use Rattle.model.specs.Sizes.{most-places}
+use Rattle.model.specs.Sizes.{most_places}
 use Rattle.formats.specs.declared.fault.TextFault.{TextFault}
 use Rattle.formats.specs.NetText.{NetText}
 use Rattle.formats.specs.RulesText.{RulesText}
-use Rattle.net_text.specs.Nets.{place_of, net-of}
-use Rattle.panel.specs.Cells.{Cell, cell-of}
+use Rattle.net_text.specs.Nets.{place_of, net_of}
+use Rattle.panel.specs.Cells.{Cell, cell_of}
 use Rattle.panel.specs.Orders.{Started, ran}
-use Rattle.panel.specs.Run.{by-rules}
-use Rattle.panel.proofs.Started.{on-ok, only-one}
-use Rattle.panel.proofs.Same.{cell-same}
+use Rattle.panel.specs.Run.{by_rules}
+use Rattle.panel.proofs.Started.{on_ok, only_one}
+use Rattle.panel.proofs.Same.{cell_same}
 use Rattle.panel.proofs.run.run_rules.Goals as goal
 
 pub returns-in-Ok-clause-printed : goal.returns-in-Ok-clause-printed
 returns-in-Ok-clause-printed c =
-    let x : NetText = net-of c.args.net_text.now c.args.net.now in
-    let few : length (vec_items c.args.net.now.places) ≤ most-places = omega (arith, length-map (vec_items c.args.net.now.places) (place_of c.args.net_text.now), c.requires.right.few-places) in
+    let x : NetText = net_of c.args.net_text.now c.args.net.now in
+    let few : length (vec_items c.args.net.now.places) ≤ most_places = omega (arith, length-map (vec_items c.args.net.now.places) (place_of c.args.net_text.now), c.requires.right.few_places) in
     let read = c.in-Ok.ensures.answer few in
     subst (λ (z : List ℕ). OnOk c.run_net.result (vec_items c.run_net.new.out ≡ vec_items c.args.out.now ++ z))
-    (ap (λ (k : Cell). ran k c.args.orders.now) (cell-same c.args.net_text.now c.args.net.now c.args.rules_text.now c.in-Ok.rules read.0 read.2)
-    ∙ sym (ap (λ (r : Result RulesText TextFault). by-rules x r c.args.orders.now) read.1))
+    (ap (λ (k : Cell). ran k c.args.orders.now) (cell_same c.args.net_text.now c.args.net.now c.args.rules_text.now c.in-Ok.rules read.0 read.2)
+    ∙ sym (ap (λ (r : Result RulesText TextFault). by_rules x r c.args.orders.now) read.1))
     c.run_net.ensures.printed
 
 pub returns-in-Ok-clause-built : goal.returns-in-Ok-clause-built
 returns-in-Ok-clause-built c =
-    let x : NetText = net-of c.args.net_text.now c.args.net.now in
-    let few : length (vec_items c.args.net.now.places) ≤ most-places = omega (arith, length-map (vec_items c.args.net.now.places) (place_of c.args.net_text.now), c.requires.right.few-places) in
+    let x : NetText = net_of c.args.net_text.now c.args.net.now in
+    let few : length (vec_items c.args.net.now.places) ≤ most_places = omega (arith, length-map (vec_items c.args.net.now.places) (place_of c.args.net_text.now), c.requires.right.few_places) in
     let read = c.in-Ok.ensures.answer few in
-    on-ok c.run_net.result _
+    on_ok c.run_net.result _
     (λ y e.
-    let same : read.0 ≡ y = only-one (sym read.1 ∙ e) in
-    subst (λ (k : Cell). Started k c.args.orders.now) (cell-same c.args.net_text.now c.args.net.now c.args.rules_text.now c.in-Ok.rules read.0 read.2 ∙ ap (cell-of x) same) c.run_net.ensures.built)
+    let same : read.0 ≡ y = only_one (sym read.1 ∙ e) in
+    subst (λ (k : Cell). Started k c.args.orders.now) (cell_same c.args.net_text.now c.args.net.now c.args.rules_text.now c.in-Ok.rules read.0 read.2 ∙ ap (cell_of x) same) c.run_net.ensures.built)

@@ -1,5 +1,5 @@
 use Rattle.std.proofs.Common.{arith}
-use Rattle.rules.proofs.Remainders.{same_first, same_next, greatest-last}
+use Rattle.rules.proofs.Remainders.{same_first, same_next, greatest_last}
 use Rattle.rules.proofs.gcd.gcd.Goals as goal
 
 pub remainders-init : goal.remainders-init
@@ -9,4 +9,4 @@ pub remainders-preserved : goal.remainders-preserved
 remainders-preserved c = same_next c.remainders.invariant
 
 pub returns : goal.returns
-returns c = greatest-last c.remainders.invariant (omega arith)
+returns c = greatest_last c.remainders.invariant (omega arith)

@@ -8,8 +8,8 @@ use Rattle.formats.specs.Texts.{check}
 use Rattle.texts.specs.Spans.{checked}
 use Rattle.rules_text.specs.declared.part.Next.TheVariants.{Plus, Minus, End}
 use Rattle.rules_text.specs.Sums.{titles, Weighs}
-use Rattle.rules_text.proofs.Parts.{passed, next-means}
-use Rattle.rules_text.proofs.Going.{Going, starts-minus, starts-plain, term-refused, weight-refused, left-refused, finished, turns, further, blank, kept, plus-kept, test-kept}
+use Rattle.rules_text.proofs.Parts.{passed, next_means}
+use Rattle.rules_text.proofs.Going.{Going, starts_minus, starts_plain, term_refused, weight_refused, left_refused, finished, turns, further, blank, kept, plus_kept, test_kept}
 use Rattle.rules_text.proofs.sum.read_sum.Goals as goal
 use Rattle.rules_text.proofs.sum.read_sum.Goals.{in-Minus, in_default, in-Plus, in-Minus-next_at}
 
@@ -20,43 +20,43 @@ parts-init c =
       | in-Minus w ↦
           let i : c.from-start.result ≡ 1 = c.from-start.ensures ∙ ap bool_byte w.matches-is in
           subst (λ (m : Bool). Going ns c.args.byte c.args.sum.now c.from-start.result m (replicate 32 (pos 0))) (sym w.matches-is)
-          (starts-minus ns c.args.byte c.args.sum.now (replicate 32 (pos 0)) blank (length-replicate 32 (pos 0)) w.in-Minus.ensures c.from-start.result i)
+          (starts_minus ns c.args.byte c.args.sum.now (replicate 32 (pos 0)) blank (length-replicate 32 (pos 0)) w.in-Minus.ensures c.from-start.result i)
       | in_default w ↦
           let i : c.from-start.result ≡ 0 = c.from-start.ensures ∙ ap bool_byte w.matches-is in
           subst (λ (m : Bool). Going ns c.args.byte c.args.sum.now c.from-start.result m (replicate 32 (pos 0))) (sym w.matches-is)
-          (starts-plain ns c.args.byte c.args.sum.now (replicate 32 (pos 0)) blank (length-replicate 32 (pos 0)) c.next_at.result c.next_at.ensures w.in_default.not-Minus c.from-start.result i)
+          (starts_plain ns c.args.byte c.args.sum.now (replicate 32 (pos 0)) blank (length-replicate 32 (pos 0)) c.next_at.result c.next_at.ensures w.in_default.not-Minus c.from-start.result i)
     ]
 
 pub returns-in_err-term : goal.returns-in_err-term
 returns-in_err-term c =
     let p = err_from_is_err_and c.from_residual.result c.from_residual.ensures.1 in
-    rw (p.1, p.2) (term-refused (titles c.args.net.now c.args.places.now) c.args.byte c.args.sum.now c.parts.start c.args.at.line c.parts.minus c.parts.weights c.parts.invariant _ c.in_err-term.ensures.value)
+    rw (p.1, p.2) (term_refused (titles c.args.net.now c.args.places.now) c.args.byte c.args.sum.now c.parts.start c.args.at.line c.parts.minus c.parts.weights c.parts.invariant _ c.in_err-term.ensures.value)
 
 pub returns-in_err-check : goal.returns-in_err-check
 returns-in_err-check c =
     let p = err_from_is_err_and c.from_residual-in_err-check.result c.from_residual-in_err-check.ensures.1 in
     let x = c.added-weight.result in
-    let is = plus-kept (get_or c.parts.weights c.in_ok-term.term.place (pos 0)) _ x (c.parts.invariant.small c.in_ok-term.term.place) c.added-weight.ensures.value in
-    let test = test-kept x c.is_weight.result c.added-weight.ensures.within c.is_weight.ensures in
+    let is = plus_kept (get_or c.parts.weights c.in_ok-term.term.place (pos 0)) _ x (c.parts.invariant.small c.in_ok-term.term.place) c.added-weight.ensures.value in
+    let test = test_kept x c.is_weight.result c.added-weight.ensures.within c.is_weight.ensures in
     rw (p.1, p.2)
-    (weight-refused (titles c.args.net.now c.args.places.now) c.args.byte c.args.sum.now c.parts.start c.args.at.line c.parts.minus c.parts.weights c.parts.invariant
+    (weight_refused (titles c.args.net.now c.args.places.now) c.args.byte c.args.sum.now c.parts.start c.args.at.line c.parts.minus c.parts.weights c.parts.invariant
     c.in_ok-term.term x c.in_ok-term.ensures.value c.in_ok-term.ensures.rest is _
     (c.in_err-check.ensures ∙ ap (λ (b : Bool). checked (check b Sum (c.args.byte + c.in_ok-term.term.name) ∷ []) c.args.at.line (tt {0})) test))
 
 pub returns-in-Other : goal.returns-in-Other
 returns-in-Other c =
     let x = c.added-weight.result in
-    let is = plus-kept (get_or c.parts.weights c.in_ok-term.term.place (pos 0)) _ x (c.parts.invariant.small c.in_ok-term.term.place) c.added-weight.ensures.value in
-    let fits : leb (nat_abs x) 99 ≡ true = sym (test-kept x c.is_weight.result c.added-weight.ensures.within c.is_weight.ensures) ∙ passed _ _ _ _ _ _ c.in_ok-check.ensures in
+    let is = plus_kept (get_or c.parts.weights c.in_ok-term.term.place (pos 0)) _ x (c.parts.invariant.small c.in_ok-term.term.place) c.added-weight.ensures.value in
+    let fits : leb (nat_abs x) 99 ≡ true = sym (test_kept x c.is_weight.result c.added-weight.ensures.within c.is_weight.ensures) ∙ passed _ _ _ _ _ _ c.in_ok-check.ensures in
     ap Err c.fault.ensures
-    ∙ left-refused (titles c.args.net.now c.args.places.now) c.args.byte c.args.sum.now c.parts.start c.args.at.line c.parts.minus c.parts.weights c.parts.invariant
+    ∙ left_refused (titles c.args.net.now c.args.places.now) c.args.byte c.args.sum.now c.parts.start c.args.at.line c.parts.minus c.parts.weights c.parts.invariant
     c.in_ok-term.term x c.in_ok-term.ensures.value c.in_ok-term.ensures.rest is fits c.next_at-in-parts.result c.next_at-in-parts.ensures c.in-Other.is
 
 pub returns-in-End : goal.returns-in-End
 returns-in-End c =
     let x = c.added-weight.result in
-    let is = plus-kept (get_or c.parts.weights c.in_ok-term.term.place (pos 0)) _ x (c.parts.invariant.small c.in_ok-term.term.place) c.added-weight.ensures.value in
-    let fits : leb (nat_abs x) 99 ≡ true = sym (test-kept x c.is_weight.result c.added-weight.ensures.within c.is_weight.ensures) ∙ passed _ _ _ _ _ _ c.in_ok-check.ensures in
+    let is = plus_kept (get_or c.parts.weights c.in_ok-term.term.place (pos 0)) _ x (c.parts.invariant.small c.in_ok-term.term.place) c.added-weight.ensures.value in
+    let fits : leb (nat_abs x) 99 ≡ true = sym (test_kept x c.is_weight.result c.added-weight.ensures.within c.is_weight.ensures) ∙ passed _ _ _ _ _ _ c.in_ok-check.ensures in
     let done = finished (titles c.args.net.now c.args.places.now) c.args.byte c.args.sum.now c.parts.start c.args.at.line c.parts.minus c.parts.weights c.parts.invariant
     c.in_ok-term.term x c.in_ok-term.ensures.value c.in_ok-term.ensures.rest is fits End c.in-End.ensures (λ e. cc) (λ e. cc) (omega (arith, c.in_ok-term.ensures.within.1)) c.in-End.ensures in
     (done.0, subst (λ (v : ℤ). Weighs (set c.parts.weights c.in_ok-term.term.place v) (sum_of (titles c.args.net.now c.args.places.now) (terms c.args.sum.now))) (sym (kept x c.added-weight.ensures.within)) done.1)
@@ -65,8 +65,8 @@ pub parts-smaller : goal.parts-smaller
 parts-smaller c =
     let le : c.parts.start ≤ c.in_ok-term.term.end = further (titles c.args.net.now c.args.places.now) c.args.byte c.args.sum.now c.parts.start c.args.at.line c.parts.minus c.parts.weights c.parts.invariant c.in_ok-term.term c.in_ok-term.ensures.value in
     let lt : c.in_ok-term.term.end < length c.args.sum.now = elim c.match-next_at.branch [
-      | in-Plus w ↦ (next-means c.args.sum.now c.in_ok-term.term.end Plus w.in-Plus.ensures).0
-      | in-Minus-next_at w ↦ (next-means c.args.sum.now c.in_ok-term.term.end Minus w.in-Minus-next_at.ensures).0
+      | in-Plus w ↦ (next_means c.args.sum.now c.in_ok-term.term.end Plus w.in-Plus.ensures).0
+      | in-Minus-next_at w ↦ (next_means c.args.sum.now c.in_ok-term.term.end Minus w.in-Minus-next_at.ensures).0
     ] in
     omega arith
 
@@ -74,17 +74,17 @@ pub parts-preserved : goal.parts-preserved
 parts-preserved c =
     let ns = titles c.args.net.now c.args.places.now in
     let x = c.added-weight.result in
-    let is = plus-kept (get_or c.parts.weights c.in_ok-term.term.place (pos 0)) _ x (c.parts.invariant.small c.in_ok-term.term.place) c.added-weight.ensures.value in
-    let fits : leb (nat_abs x) 99 ≡ true = sym (test-kept x c.is_weight.result c.added-weight.ensures.within c.is_weight.ensures) ∙ passed _ _ _ _ _ _ c.in_ok-check.ensures in
+    let is = plus_kept (get_or c.parts.weights c.in_ok-term.term.place (pos 0)) _ x (c.parts.invariant.small c.in_ok-term.term.place) c.added-weight.ensures.value in
+    let fits : leb (nat_abs x) 99 ≡ true = sym (test_kept x c.is_weight.result c.added-weight.ensures.within c.is_weight.ensures) ∙ passed _ _ _ _ _ _ c.in_ok-check.ensures in
     subst (λ (v : ℤ). Going ns c.args.byte c.args.sum.now (c.in_ok-term.term.end + 1) c.match-next_at.minus (set c.parts.weights c.in_ok-term.term.place v)) (sym (kept x c.added-weight.ensures.within))
     (elim c.match-next_at.branch [
       | in-Plus w ↦
-          let n = next-means c.args.sum.now c.in_ok-term.term.end Plus w.in-Plus.ensures in
+          let n = next_means c.args.sum.now c.in_ok-term.term.end Plus w.in-Plus.ensures in
           turns ns c.args.byte c.args.sum.now c.parts.start c.args.at.line c.parts.minus c.parts.weights c.parts.invariant
           c.in_ok-term.term x c.in_ok-term.ensures.value c.in_ok-term.ensures.rest is fits Plus w.in-Plus.ensures (λ e. cc) (λ e. cc) (omega (arith, c.in_ok-term.ensures.within.1)) n.0 c.match-next_at.minus
           (ap (λ (b : ℕ). eqb b 45) n.1 ∙ sym w.minus-is)
       | in-Minus-next_at w ↦
-          let n = next-means c.args.sum.now c.in_ok-term.term.end Minus w.in-Minus-next_at.ensures in
+          let n = next_means c.args.sum.now c.in_ok-term.term.end Minus w.in-Minus-next_at.ensures in
           turns ns c.args.byte c.args.sum.now c.parts.start c.args.at.line c.parts.minus c.parts.weights c.parts.invariant
           c.in_ok-term.term x c.in_ok-term.ensures.value c.in_ok-term.ensures.rest is fits Minus w.in-Minus-next_at.ensures (λ e. cc) (λ e. cc) (omega (arith, c.in_ok-term.ensures.within.1)) n.0 c.match-next_at.minus
           (ap (λ (b : ℕ). eqb b 45) n.1 ∙ sym w.minus-is)

@@ -1,5 +1,5 @@
 use Rattle.bank.specs.Banks.{letter}
-use Rattle.bank.proofs.Calls.{over-bits, over-place-in}
+use Rattle.bank.proofs.Calls.{over_bits, over_place_in}
 use Rattle.bank.proofs.bank.Bank.returned.Goals as goal
 
 pub returns : goal.returns
@@ -7,7 +7,7 @@ returns c =
     let s = c.args.self.now in
     let t = c.args.t in
     record {
-      after = over-bits s.count s.tokens (letter s.letters) t t (λ h. h) c.with_bit.result c.requires c.with_bit.ensures.bits;
+      after = over_bits s.count s.tokens (letter s.letters) t t (λ h. h) c.with_bit.result c.requires c.with_bit.ensures.bits;
       inside = c.with_bit.ensures.inside s.count
-          (over-place-in s.count s.tokens (letter s.letters) t t (λ h. h) c.requires) s.inside;
+          (over_place_in s.count s.tokens (letter s.letters) t t (λ h. h) c.requires) s.inside;
     }

@@ -1,10 +1,10 @@
 use Rattle.std.proofs.Common.{sym, ap, ◌∙◌}
 use Rattle.std.proofs.lemmas.Result.{err_from_is_err_and}
 use Rattle.model.specs.declared.refusal.Refusal.TheVariants.{Short}
-use Rattle.model.specs.Plant.{begin-answer, refuse-at}
-use Rattle.model.specs.Layer.{row_count, layer-net, layer-free, rows-begin, row-fault}
-use Rattle.model.proofs.LayerCalls.{layer-begins}
-use Rattle.layers.proofs.Calls.{refused-below, passed-shut, passed-own, begin-counts, begin-masked}
+use Rattle.model.specs.Plant.{begin_answer, refuse_at}
+use Rattle.model.specs.Layer.{row_count, layer_net, layer_free, rows_begin, row_fault}
+use Rattle.model.proofs.LayerCalls.{layer_begins}
+use Rattle.layers.proofs.Calls.{refused_below, passed_shut, passed_own, begin_counts, begin_masked}
 use Rattle.layers.proofs.as_plant.LayerPlant.may_begin.Goals as goal
 use Rattle.layers.proofs.as_plant.LayerPlant.may_begin.Goals.{then-is_shut-via-then-is_shut, then-is_shut-via-else-is_shut+then-not-controllable}
 
@@ -17,7 +17,7 @@ returns-in_err-may_begin g c =
     let rows = g.R.Rows.rows s.rows in
     let p = err_from_is_err_and c.from_residual.result c.from_residual.ensures.1 in
     rw (p.1, p.2)
-    (refused-below size n (begin-answer (layer-net size n rows) (layer-free size n free rows) c.args.t) (begin-answer n free c.args.t) (rows-begin size n rows c.args.t) (layer-begins size n free rows c.args.t).0 _ c.in_err-may_begin.ensures)
+    (refused_below size n (begin_answer (layer_net size n rows) (layer_free size n free rows) c.args.t) (begin_answer n free c.args.t) (rows_begin size n rows c.args.t) (layer_begins size n free rows c.args.t).0 _ c.in_err-may_begin.ensures)
 
 pub returns-then-is_shut : goal.returns-then-is_shut
 returns-then-is_shut g c =
@@ -28,10 +28,10 @@ returns-then-is_shut g c =
     let rows = g.R.Rows.rows s.rows in
     let e = c.in_ok-may_begin.ensures in
     elim c.then-is_shut.branch [
-      | then-is_shut-via-then-is_shut w ↦ passed-shut size n (begin-answer (layer-net size n rows) (layer-free size n free rows) c.args.t) (begin-answer n free c.args.t) (rows-begin size n rows c.args.t) (layer-begins size n free rows c.args.t).0 (sym w.if-is_shut.ensures) e
+      | then-is_shut-via-then-is_shut w ↦ passed_shut size n (begin_answer (layer_net size n rows) (layer_free size n free rows) c.args.t) (begin_answer n free c.args.t) (rows_begin size n rows c.args.t) (layer_begins size n free rows c.args.t).0 (sym w.if-is_shut.ensures) e
       | then-is_shut-via-else-is_shut+then-not-controllable w ↦
-          begin-masked size n rows c.args.t (sym w.if-not-controllable.ensures)
-          ∙ passed-own size n (begin-answer (layer-net size n rows) (layer-free size n free rows) c.args.t) (begin-answer n free c.args.t) (rows-begin size n rows c.args.t) (layer-begins size n free rows c.args.t).0 (sym w.if-is_shut.ensures) e
+          begin_masked size n rows c.args.t (sym w.if-not-controllable.ensures)
+          ∙ passed_own size n (begin_answer (layer_net size n rows) (layer_free size n free rows) c.args.t) (begin_answer n free c.args.t) (rows_begin size n rows c.args.t) (layer_begins size n free rows c.args.t).0 (sym w.if-is_shut.ensures) e
     ]
 
 pub returns : goal.returns
@@ -43,6 +43,6 @@ returns g c =
     let rows = g.R.Rows.rows s.rows in
     let e = c.in_ok-may_begin.ensures in
     c.refuse_at.ensures
-    ∙ ap (refuse-at (row-fault n Short c.args.t)) c.short.ensures
-    ∙ sym (begin-counts size n rows c.args.t (sym c.if-not-controllable.ensures))
-    ∙ passed-own size n (begin-answer (layer-net size n rows) (layer-free size n free rows) c.args.t) (begin-answer n free c.args.t) (rows-begin size n rows c.args.t) (layer-begins size n free rows c.args.t).0 (sym c.if-is_shut.ensures) e
+    ∙ ap (refuse_at (row_fault n Short c.args.t)) c.short.ensures
+    ∙ sym (begin_counts size n rows c.args.t (sym c.if-not-controllable.ensures))
+    ∙ passed_own size n (begin_answer (layer_net size n rows) (layer_free size n free rows) c.args.t) (begin_answer n free c.args.t) (rows_begin size n rows c.args.t) (layer_begins size n free rows c.args.t).0 (sym c.if-is_shut.ensures) e

@@ -1,11 +1,11 @@
 use Rattle.std.proofs.Common.{sym, ap, ◌∙◌}
 use Rattle.std.proofs.lemmas.Result.{err_from_is_err_and}
 use Rattle.model.specs.declared.refusal.Refusal.TheVariants.{OverLimit}
-use Rattle.model.specs.Plant.{finish-answer, refuse-at}
-use Rattle.model.specs.Layer.{row_count, layer-net, layer-free, rows-finish, row-fault}
-use Rattle.model.proofs.LayerCalls.{layer-begins}
+use Rattle.model.specs.Plant.{finish_answer, refuse_at}
+use Rattle.model.specs.Layer.{row_count, layer_net, layer_free, rows_finish, row_fault}
+use Rattle.model.proofs.LayerCalls.{layer_begins}
 use Rattle.plant.proofs.Answering.{fits}
-use Rattle.layers.proofs.Calls.{refused-below, passed-shut, passed-own, finish-counts}
+use Rattle.layers.proofs.Calls.{refused_below, passed_shut, passed_own, finish_counts}
 use Rattle.layers.proofs.as_plant.LayerPlant.may_finish.Goals as goal
 
 pub returns-in_err-may_finish : goal.returns-in_err-may_finish
@@ -17,7 +17,7 @@ returns-in_err-may_finish g c =
     let rows = g.R.Rows.rows s.rows in
     let p = err_from_is_err_and c.from_residual.result c.from_residual.ensures.1 in
     rw (p.1, p.2)
-    (refused-below size n (finish-answer (layer-net size n rows) (layer-free size n free rows) c.args.t) (finish-answer n free c.args.t) (rows-finish size n rows c.args.t) (layer-begins size n free rows c.args.t).1 _ c.in_err-may_finish.ensures)
+    (refused_below size n (finish_answer (layer_net size n rows) (layer_free size n free rows) c.args.t) (finish_answer n free c.args.t) (rows_finish size n rows c.args.t) (layer_begins size n free rows c.args.t).1 _ c.in_err-may_finish.ensures)
 
 pub returns-then-is_shut : goal.returns-then-is_shut
 returns-then-is_shut g c =
@@ -27,7 +27,7 @@ returns-then-is_shut g c =
     let free = g.P.Plant.tokens s.below in
     let rows = g.R.Rows.rows s.rows in
     let e = c.in_ok-may_finish.ensures in
-    passed-shut size n (finish-answer (layer-net size n rows) (layer-free size n free rows) c.args.t) (finish-answer n free c.args.t) (rows-finish size n rows c.args.t) (layer-begins size n free rows c.args.t).1 (sym c.if-is_shut.ensures) e
+    passed_shut size n (finish_answer (layer_net size n rows) (layer_free size n free rows) c.args.t) (finish_answer n free c.args.t) (rows_finish size n rows c.args.t) (layer_begins size n free rows c.args.t).1 (sym c.if-is_shut.ensures) e
 
 pub returns : goal.returns
 returns g c =
@@ -38,6 +38,6 @@ returns g c =
     let rows = g.R.Rows.rows s.rows in
     let e = c.in_ok-may_finish.ensures in
     c.refuse_at.ensures
-    ∙ ap (refuse-at (row-fault n OverLimit c.args.t)) c.over_by_give.ensures
-    ∙ sym (finish-counts size n rows c.args.t (fits n free (λ p. n.give p c.args.t) c.args.t e).0)
-    ∙ passed-own size n (finish-answer (layer-net size n rows) (layer-free size n free rows) c.args.t) (finish-answer n free c.args.t) (rows-finish size n rows c.args.t) (layer-begins size n free rows c.args.t).1 (sym c.if-is_shut.ensures) e
+    ∙ ap (refuse_at (row_fault n OverLimit c.args.t)) c.over_by_give.ensures
+    ∙ sym (finish_counts size n rows c.args.t (fits n free (λ p. n.give p c.args.t) c.args.t e).0)
+    ∙ passed_own size n (finish_answer (layer_net size n rows) (layer_free size n free rows) c.args.t) (finish_answer n free c.args.t) (rows_finish size n rows c.args.t) (layer_begins size n free rows c.args.t).1 (sym c.if-is_shut.ensures) e

@@ -1,46 +1,46 @@
 use Rattle.std.proofs.Common.{◌≤◌, T, ℤ, nat_abs, sym, refl, ap, ◌∙◌, subst, w32, SFits, rules}
 use lib.Signed.{non_neg}
 use Rattle.std.proofs.lemmas.Int.{to_z-of_z}
-use Rattle.model.specs.Sizes.{control-limit}
-use Rattle.model.specs.Rule.{weighted-free}
-use Rattle.model.proofs.Checks.{err-not-ok}
-use Rattle.rules.specs.Rules.{rule-of, worked-of}
-use Rattle.layers.specs.Piles.{pile-of}
-use Rattle.layers.proofs.RowSet.{spare-nonneg, spare-small, holds-so, set_to}
+use Rattle.model.specs.Sizes.{control_limit}
+use Rattle.model.specs.Rule.{weighted_free}
+use Rattle.model.proofs.Checks.{err_not_ok}
+use Rattle.rules.specs.Rules.{rule_of, worked_of}
+use Rattle.layers.specs.Piles.{pile_of}
+use Rattle.layers.proofs.RowSet.{spare_nonneg, spare_small, holds_so, set_to}
 use Rattle.layers.proofs.layer.Layer.set_row.Goals as goal
 
 pub overflow_cast-free : goal.overflow_cast-free
 overflow_cast-free g c =
     let s = c.args.self.now in
-    let p = pile-of g.R.Rows.top g.P.Net.net g.P.Plant.tokens g.R.Rows.rows s in
-    let w = worked-of c.in_ok-rule.rule in
+    let p = pile_of g.R.Rows.top g.P.Net.net g.P.Plant.tokens g.R.Rows.rows s in
+    let w = worked_of c.in_ok-rule.rule in
     let checks = c.in_ok-rule.ensures in
-    let sum = weighted-free (g.P.Net.net s.below) w.weight (g.P.Plant.tokens s.below) in
+    let sum = weighted_free (g.P.Net.net s.below) w.weight (g.P.Plant.tokens s.below) in
     let fits : SFits w32 c.spare-free.result = search rules in
     let spare = to_z-of_z w32 c.spare-free.result fits ∙ c.spare-free.ensures in
-    let low : T (non_neg _) = subst (λ (z : ℤ). T (non_neg z)) (sym spare) (spare-nonneg w.bound sum (holds-so p c.args.r (rule-of c.args.typed.now) w checks.answer (checks.works w refl))) in
+    let low : T (non_neg _) = subst (λ (z : ℤ). T (non_neg z)) (sym spare) (spare_nonneg w.bound sum (holds_so p c.args.r (rule_of c.args.typed.now) w checks.answer (checks.works w refl))) in
     (low, search rules)
 
 pub set_rule-requires : goal.set_rule-requires
 set_rule-requires g c =
     let s = c.args.self.now in
-    let w = worked-of c.in_ok-rule.rule in
+    let w = worked_of c.in_ok-rule.rule in
     let fits : SFits w32 c.spare-free.result = search rules in
     let spare = to_z-of_z w32 c.spare-free.result fits ∙ c.spare-free.ensures in
-    let most = spare-small (g.P.Net.net s.below) (g.P.Plant.tokens s.below) w (g.met.P.Net.sound s.below) (g.met.P.Plant.within s.below) c.in_ok-rule.rule.small_weights c.in_ok-rule.rule.small_bound in
-    record { row = c.requires; room = subst (λ (z : ℤ). nat_abs z ≤ control-limit) (sym spare) most; small = c.raises-raises.ensures.small }
+    let most = spare_small (g.P.Net.net s.below) (g.P.Plant.tokens s.below) w (g.met.P.Net.sound s.below) (g.met.P.Plant.within s.below) c.in_ok-rule.rule.small_weights c.in_ok-rule.rule.small_bound in
+    record { row = c.requires; room = subst (λ (z : ℤ). nat_abs z ≤ control_limit) (sym spare) most; small = c.raises-raises.ensures.small }
 
 pub returns : goal.returns
 returns g c =
     let s = c.args.self.now in
-    let p = pile-of g.R.Rows.top g.P.Net.net g.P.Plant.tokens g.R.Rows.rows s in
-    let w = worked-of c.in_ok-rule.rule in
+    let p = pile_of g.R.Rows.top g.P.Net.net g.P.Plant.tokens g.R.Rows.rows s in
+    let w = worked_of c.in_ok-rule.rule in
     let checks = c.in_ok-rule.ensures in
     let fits : SFits w32 c.spare-free.result = search rules in
     let spare = to_z-of_z w32 c.spare-free.result fits ∙ c.spare-free.ensures in
     record {
       answer = checks.answer;
       below = refl;
-      refused = λ f e. absurd (err-not-ok f (sym e));
-      set = λ _. set_to p c.args.r (rule-of c.args.typed.now) w checks.answer (checks.works w refl) (g.met.P.Net.sound s.below) c.requires c.raises-raises.result _ c.raises-raises.ensures.value (ap nat_abs spare) _ c.set_rule.ensures;
+      refused = λ f e. absurd (err_not_ok f (sym e));
+      set = λ _. set_to p c.args.r (rule_of c.args.typed.now) w checks.answer (checks.works w refl) (g.met.P.Net.sound s.below) c.requires c.raises-raises.result _ c.raises-raises.ensures.value (ap nat_abs spare) _ c.set_rule.ensures;
     }

@@ -2,9 +2,9 @@ use Rattle.std.proofs.Common.{◌+◌, true, get_or, pos, sym, refl, ap, ◌∙�
 use Rattle.std.proofs.lemmas.List.{length-set}
 use Rattle.std.proofs.lemmas.Int.{to_z-of_z}
 use Rattle.model.specs.Rule.{positive, negative}
-use Rattle.model.specs.Sizes.{most-moves}
+use Rattle.model.specs.Sizes.{most_moves}
 use Rattle.layers.specs.declared.row.Row.{Row}
-use Rattle.layers.proofs.Arcs.{BothWritten, written_none, written-more, written_all}
+use Rattle.layers.proofs.Arcs.{BothWritten, written_none, written_more, written_all}
 use Rattle.layers.proofs.row.Row.set_rule.Goals as goal
 
 pub moves-init : goal.moves-init
@@ -23,8 +23,8 @@ moves-preserved c =
     let same = to_z-of_z w32 (get_or is t (pos 0)) fits in
     subst (λ (r : Row). BothWritten is (t + 1) r.take r.give) (sym c.set_arc.ensures)
     (record {
-      taking = written-more positive is t _ c.moves.self.take (omega arith) (ap positive same) c.moves.invariant.taking;
-      giving = written-more negative is t _ c.moves.self.give (omega arith) (ap negative same) c.moves.invariant.giving;
+      taking = written_more positive is t _ c.moves.self.take (omega arith) (ap positive same) c.moves.invariant.taking;
+      giving = written_more negative is t _ c.moves.self.give (omega arith) (ap negative same) c.moves.invariant.giving;
       takes_all = length-set c.moves.self.take t _ ∙ c.moves.invariant.takes_all;
       gives_all = length-set c.moves.self.give t _ ∙ c.moves.invariant.gives_all;
     })
@@ -32,6 +32,6 @@ moves-preserved c =
 pub returns : goal.returns
 returns c =
     let is = c.args.raises.now in
-    let takes = written_all positive is most-moves c.moves.t c.moves.self.take c.moves-test.false (omega arith) c.told-raises refl c.moves.invariant.taking in
-    let gives = written_all negative is most-moves c.moves.t c.moves.self.give c.moves-test.false (omega arith) c.told-raises refl c.moves.invariant.giving in
+    let takes = written_all positive is most_moves c.moves.t c.moves.self.take c.moves-test.false (omega arith) c.told-raises refl c.moves.invariant.taking in
+    let gives = written_all negative is most_moves c.moves.t c.moves.self.give c.moves-test.false (omega arith) c.told-raises refl c.moves.invariant.giving in
     λ i. record { take = λ t. takes t i; give = λ t. gives t i; free = c.args.free; in_use = true }

@@ -1,7 +1,7 @@
 use Rattle.std.proofs.Common.{ℕ, ◌<◌, Bool, sym, ◌∙◌, arith}
 use Rattle.model.specs.Ledger.{crowded}
 use Rattle.model.specs.Net.{Net}
-use Rattle.plant.proofs.Lowest.{found_here, sought-on}
+use Rattle.plant.proofs.Lowest.{found_here, sought_on}
 use Rattle.ledger.specs.Grants.{opened}
 use Rattle.ledger.proofs.ledger.Ledger.crowded_place.Goals as goal
 
@@ -17,4 +17,4 @@ places-preserved g c =
     let n : Net = g.P.Net.net c.args.self.now.pile in
     let f : ℕ → Bool = crowded n (g.P.Plant.tokens c.args.self.now.pile) (opened c.args.self.now.grants.counts) c.args.t in
     let within : c.places.p < n.places = omega arith in
-    sought-on f n.places c.places.p c.places.invariant within (sym c.is_crowded.ensures ∙ c.if-is_crowded.false)
+    sought_on f n.places c.places.p c.places.invariant within (sym c.is_crowded.ensures ∙ c.if-is_crowded.false)

@@ -1,8 +1,8 @@
 use Rattle.std.proofs.Common.{◌+◌, ◌<◌, ltb, arith}
 use Rattle.std.proofs.lemmas.Bool.{lt-ltb, le-ltb}
 use Rattle.model.specs.declared.refusal.Refusal.TheVariants.{OverLimit}
-use Rattle.plant.proofs.Lowest.{found_here, sought-on, found_nowhere}
-use Rattle.plant.proofs.Answering.{refused-at, passed}
+use Rattle.plant.proofs.Lowest.{found_here, sought_on, found_nowhere}
+use Rattle.plant.proofs.Answering.{refused_at, passed}
 use Rattle.plant.proofs.plant.Plant.may_finish.Goals as goal
 
 pub returns-then-limit-free : goal.returns-then-limit-free
@@ -10,7 +10,7 @@ returns-then-limit-free g c =
     let s = c.args.self.now in
     let n = g.Self.Net.net s in
     let in' : c.loop-p.p < n.places = omega (arith, c.places-p-end.ensures) in
-    refused-at n OverLimit c.args.t c.loop-p.p c.layer.result c.row.result _ (omega (arith, c.moves.ensures))
+    refused_at n OverLimit c.args.t c.loop-p.p c.layer.result c.row.result _ (omega (arith, c.moves.ensures))
     (found_here (λ p. ltb ((g.Self.Net.net c.args.self.now).limit p) (g.Self.Plant.tokens c.args.self.now p + (g.Self.Net.net c.args.self.now).give p c.args.t)) n.places c.loop-p.p c.loop-p.invariant in' (lt-ltb _ _ (omega (arith, c.free.ensures, c.limit.ensures, c.give.ensures, c.if-limit-free.true, g.met.Self.Plant.within s c.loop-p.p)))) c.layer.ensures c.row.ensures
 
 pub loop-p-preserved : goal.loop-p-preserved
@@ -18,7 +18,7 @@ loop-p-preserved g c =
     let s = c.args.self.now in
     let n = g.Self.Net.net s in
     let in' : c.loop-p.p < n.places = omega (arith, c.places-p-end.ensures) in
-    sought-on (λ p. ltb ((g.Self.Net.net c.args.self.now).limit p) (g.Self.Plant.tokens c.args.self.now p + (g.Self.Net.net c.args.self.now).give p c.args.t)) n.places c.loop-p.p c.loop-p.invariant in' (le-ltb _ _ (omega (arith, c.free.ensures, c.limit.ensures, c.give.ensures, c.if-limit-free.false, g.met.Self.Plant.within s c.loop-p.p)))
+    sought_on (λ p. ltb ((g.Self.Net.net c.args.self.now).limit p) (g.Self.Plant.tokens c.args.self.now p + (g.Self.Net.net c.args.self.now).give p c.args.t)) n.places c.loop-p.p c.loop-p.invariant in' (le-ltb _ _ (omega (arith, c.free.ensures, c.limit.ensures, c.give.ensures, c.if-limit-free.false, g.met.Self.Plant.within s c.loop-p.p)))
 
 pub returns : goal.returns
 returns g c =

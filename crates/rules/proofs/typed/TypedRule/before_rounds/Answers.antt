@@ -1,12 +1,12 @@
 use Rattle.std.proofs.Common.{◌≡◌, length, ℤ, sym, ◌∙◌, arith, w32, SFits, to_z, of_z, rules}
 use Rattle.std.proofs.lemmas.Int.{ints, to_z-of_z}
-use Rattle.rules.specs.Rules.{rule-of}
-use Rattle.rules.proofs.Testing.{typed-on-ground, typed-weights-small, typed-bound-small, typed-is, typed-refused}
+use Rattle.rules.specs.Rules.{rule_of}
+use Rattle.rules.proofs.Testing.{typed_on_ground, typed_weights_small, typed_bound_small, typed_is, typed_refused}
 use Rattle.rules.proofs.typed.TypedRule.before_rounds.Goals as goal
 
 pub returns-then-not-can_be_typed : goal.returns-then-not-can_be_typed
 returns-then-not-can_be_typed g c =
-    record { answer = typed-refused (g.N.Net.net c.args.net.now) (rule-of c.args.self.now) c.fault.result c.fault.ensures (sym c.can_be_typed.ensures ∙ c.if-not-can_be_typed.true); by_ground = tt }
+    record { answer = typed_refused (g.N.Net.net c.args.net.now) (rule_of c.args.self.now) c.fault.result c.fault.ensures (sym c.can_be_typed.ensures ∙ c.if-not-can_be_typed.true); by_ground = tt }
 
 pub invariant_of-result : goal.invariant_of-result
 invariant_of-result g c =
@@ -14,8 +14,8 @@ invariant_of-result g c =
     let s = c.args.self.now in
     let size : length s.weights ≡ 32 = search rules in
     let typed = sym c.can_be_typed.ensures ∙ c.if-not-can_be_typed.false in
-    let low = typed-bound-small n s.weights s.bound size typed in
-    record { small_weights = typed-weights-small n s.weights s.bound size typed; small_bound = omega (arith, ints, low); few_rounds = omega arith }
+    let low = typed_bound_small n s.weights s.bound size typed in
+    record { small_weights = typed_weights_small n s.weights s.bound size typed; small_bound = omega (arith, ints, low); few_rounds = omega arith }
 
 pub returns : goal.returns
 returns g c =
@@ -26,6 +26,6 @@ returns g c =
     let fits : SFits w32 b = search rules in
     let typed = sym c.can_be_typed.ensures ∙ c.if-not-can_be_typed.false in
     record {
-      answer = typed-is n s.weights b size typed (to_z w32 (of_z w32 b)) (to_z-of_z w32 b fits);
-      by_ground = typed-on-ground n s.weights b size typed;
+      answer = typed_is n s.weights b size typed (to_z w32 (of_z w32 b)) (to_z-of_z w32 b fits);
+      by_ground = typed_on_ground n s.weights b size typed;
     }

@@ -1,9 +1,9 @@
 use Rattle.std.proofs.Common.{Some, None, sym, ap, arith}
 use Rattle.std.proofs.lemmas.Bool.{lt-ltb, le-ltb}
 use Rattle.model.specs.Working.{rising, falls}
-use Rattle.plant.proofs.Lowest.{sought-first, sought-on, found_here, found_nowhere}
-use Rattle.rules.specs.Rules.{worked-of}
-use Rattle.rules.specs.Searching.{rising-at}
+use Rattle.plant.proofs.Lowest.{sought_first, sought_on, found_here, found_nowhere}
+use Rattle.rules.specs.Rules.{worked_of}
+use Rattle.rules.specs.Searching.{rising_at}
 use Rattle.rules.proofs.Finding.{held, rises, stays, found}
 use Rattle.rules.proofs.worked.WorkedRule.rising.Goals as goal
 use Rattle.rules.proofs.worked.WorkedRule.rising.Goals.{else-not-controllable-via-then-not-controllable+else-raise-gt0, else-not-controllable-via-else-not-controllable}
@@ -11,24 +11,24 @@ use Rattle.rules.proofs.worked.WorkedRule.rising.Goals.{else-not-controllable-vi
 pub places-init : goal.places-init
 places-init g c =
     let n = g.N.Net.net c.args.net.now in
-    sought-first (falls n c.moves.t) n.ground-places
+    sought_first (falls n c.moves.t) n.ground_places
 
 pub places-preserved : goal.places-preserved
 places-preserved g c =
     let n = g.N.Net.net c.args.net.now in
-    sought-on (falls n c.moves.t) n.ground-places c.places.p c.places.invariant (omega (arith, c.ground-p-end.ensures))
+    sought_on (falls n c.moves.t) n.ground_places c.places.p c.places.invariant (omega (arith, c.ground-p-end.ensures))
     (le-ltb _ _ (omega (arith, c.give.ensures, c.take.ensures)))
 
 pub moves-init : goal.moves-init
 moves-init g c =
     let n = g.N.Net.net c.args.net.now in
-    sought-first (rising n (worked-of c.args.self.now)) n.moves
+    sought_first (rising n (worked_of c.args.self.now)) n.moves
 
 pub moves-preserved : goal.moves-preserved
 moves-preserved g c =
     let n = g.N.Net.net c.args.net.now in
-    let w = worked-of c.args.self.now in
-    sought-on (rising n w) n.moves c.moves.t c.moves.invariant (omega (arith, c.moves-t-end.ensures))
+    let w = worked_of c.args.self.now in
+    sought_on (rising n w) n.moves c.moves.t c.moves.invariant (omega (arith, c.moves-t-end.ensures))
     (elim c.else-not-controllable.branch [
       | else-not-controllable-via-then-not-controllable+else-raise-gt0 d ↦ stays n w c.moves.t c.controllable.result c.controllable.ensures d.raise.result (record { sfits = d.raise.type_inv }) d.raise.ensures d.if-raise-gt0.false
       | else-not-controllable-via-else-not-controllable d ↦ held n w c.moves.t c.controllable.result c.controllable.ensures d.if-not-controllable.false
@@ -37,24 +37,24 @@ moves-preserved g c =
 pub returns-then-give-take : goal.returns-then-give-take
 returns-then-give-take g c =
     let n = g.N.Net.net c.args.net.now in
-    let w = worked-of c.args.self.now in
+    let w = worked_of c.args.self.now in
     found n w c.moves.t (Some c.places.p)
     (found_here (rising n w) n.moves c.moves.t c.moves.invariant (omega (arith, c.moves-t-end.ensures))
     (rises n w c.moves.t c.controllable.result c.controllable.ensures c.raise.result (record { sfits = c.raise.type_inv }) c.raise.ensures c.if-not-controllable.true c.if-raise-gt0.true))
-    (found_here (falls n c.moves.t) n.ground-places c.places.p c.places.invariant (omega (arith, c.ground-p-end.ensures))
+    (found_here (falls n c.moves.t) n.ground_places c.places.p c.places.invariant (omega (arith, c.ground-p-end.ensures))
     (lt-ltb _ _ (omega (arith, c.give.ensures, c.take.ensures))))
 
 pub returns-after-places : goal.returns-after-places
 returns-after-places g c =
     let n = g.N.Net.net c.args.net.now in
-    let w = worked-of c.args.self.now in
+    let w = worked_of c.args.self.now in
     found n w c.moves.t None
     (found_here (rising n w) n.moves c.moves.t c.moves.invariant (omega (arith, c.moves-t-end.ensures))
     (rises n w c.moves.t c.controllable.result c.controllable.ensures c.raise.result (record { sfits = c.raise.type_inv }) c.raise.ensures c.if-not-controllable.true c.if-raise-gt0.true))
-    (found_nowhere (falls n c.moves.t) n.ground-places c.places.p c.places.invariant (omega (arith, c.ground-p-end.ensures)))
+    (found_nowhere (falls n c.moves.t) n.ground_places c.places.p c.places.invariant (omega (arith, c.ground-p-end.ensures)))
 
 pub returns-after-moves : goal.returns-after-moves
 returns-after-moves g c =
     let n = g.N.Net.net c.args.net.now in
-    let w = worked-of c.args.self.now in
-    sym (ap (rising-at n) (found_nowhere (rising n w) n.moves c.moves.t c.moves.invariant (omega (arith, c.moves-t-end.ensures))))
+    let w = worked_of c.args.self.now in
+    sym (ap (rising_at n) (found_nowhere (rising n w) n.moves c.moves.t c.moves.invariant (omega (arith, c.moves-t-end.ensures))))
