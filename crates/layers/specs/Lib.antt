@@ -5,3 +5,4 @@ pub mod Setting
 pub mod Stacking
 pub mod Layered
 pub mod Kept
+pub mod Shut

@@ -1,23 +1,30 @@
 -- The model's pile of a layer over a plant.
+--   rows_if_open     the rows of a layer over the net, which count as blank while the layer is shut
 --   pile_of          the pile that a layer is, by what tells of its top, of the net and the tokens below, and of its rows
 --   monitor_pile, board_pile   the pile of a fixed monitor, and of a board, over plants that are told of so
 --   stack_pile       the pile of a board over a fixed monitor
---   moved_pile       the pile after a call: as it was if the call is refused, else moved, but for the rows of a shut layer
 --   new_pile         the pile of a new layer over a net and its tokens: its rows are blank
 --   Fresh            what the pile p of a new layer is: its rows have their numbers, no arcs and no tokens, and the number of
 --                    the layer is the lowest above all layers below
 use Rattle.std.specs.Prelude.{◌≡◌, ℕ, ◌<◌, ◌≤◌, false, cond}
 use Rattle.model.specs.Net.{Net}
-use Rattle.model.specs.Plant.{Answer, accepted}
-use Rattle.model.specs.Layer.{Row, blank, Top, monitor, board, Pile, is_shut, row_count, next_layer, pile_net, pile_free}
+use Rattle.model.specs.Layer.{Row, blank, Top, monitor, board, Pile, is_shut, row_count, next_layer, layer_net, layer_free, pile_net, pile_free}
 use Rattle.model.specs.Laws.{FreshRow}
 use Rattle.layers.specs.declared.single.Single.{Single}
 use Rattle.layers.specs.declared.table.Table.{Table}
 use Rattle.layers.specs.declared.layer.Layer.{Layer}
 use Rattle.layers.specs.Rows.{only, rows_of}
 
+abbrev pub rows_if_open : ℕ → Net → (ℕ → Row) → ℕ → Row
+rows_if_open size n rows = cond (is_shut size n) (λ r. blank) rows
+
 abbrev pub pile_of : {P R : Type 0} → Top → (P → Net) → (P → ℕ → ℕ) → (R → ℕ → Row) → Layer P R → Pile
-pile_of top net tokens rows s = record { top = top; below = net s.below; below_free = tokens s.below; rows = rows s.rows }
+pile_of top net tokens rows s = record {
+  top = top;
+  below = net s.below;
+  below_free = tokens s.below;
+  rows = rows_if_open (row_count top) (net s.below) (rows s.rows);
+}
 
 abbrev pub monitor_pile : {P : Type 0} → (P → Net) → (P → ℕ → ℕ) → Layer P Single → Pile
 monitor_pile net tokens s = pile_of monitor net tokens (λ o. only o.row) s
@@ -26,15 +33,10 @@ abbrev pub board_pile : {P : Type 0} → (P → Net) → (P → ℕ → ℕ) →
 board_pile net tokens s = pile_of board net tokens (λ t. rows_of t.rows) s
 
 abbrev pub stack_pile : {P : Type 0} → (P → Net) → (P → ℕ → ℕ) → Layer (Layer P Single) Table → Pile
-stack_pile net tokens s = board_pile (λ m. pile_net (monitor_pile net tokens m)) (λ m. pile_free (monitor_pile net tokens m)) s
-
-abbrev pub moved_pile : Answer → (was moved : Pile) → Pile
-moved_pile a was moved = cond (accepted a) (record {
-  top = was.top;
-  below = was.below;
-  below_free = moved.below_free;
-  rows = cond (is_shut (row_count was.top) was.below) was.rows moved.rows;
-}) was
+stack_pile net tokens s = board_pile
+    (λ m. layer_net (row_count monitor) (net m.below) (only m.rows.row))
+    (λ m. layer_free (row_count monitor) (net m.below) (tokens m.below) (only m.rows.row))
+    s
 
 abbrev pub new_pile : Top → Net → (ℕ → ℕ) → Pile
 new_pile top n free = record { top = top; below = n; below_free = free; rows = λ r. blank }

@@ -2,6 +2,7 @@
 ghost use Rattle.std.specs.Prelude.{◌≡◌, ℕ};
 ghost use Rattle.layers.specs.Piles.{pile_of};
 ghost use Rattle.model.specs.Layer.{layer_free, row_count};
+ghost use Rattle.layers.specs.Shut.{same_net, same_free};
 ghost use Rattle.std.proofs.Common.{rules};
 
 use crate::layer::Layer;
@@ -16,7 +17,7 @@ impl<P: Plant, R: Rows> Plant for Layer<P, R> {
 
     ghost pile = { λ s. pile_of R.Rows.top P.Net.net P.Plant.tokens R.Rows.rows s };
 
-    ghost stacked = { Prim.search rules };
+    ghost stacked = { λ s. (same_net (row_count R.Rows.top) (P.Net.net s.below) (R.Rows.rows s.rows), same_free (row_count R.Rows.top) (P.Net.net s.below) (R.Rows.rows s.rows) (P.Plant.tokens s.below)) };
 
     ghost within = { Prim.search rules };
 

@@ -34,7 +34,7 @@ impl<P: Plant> Board<P> {
     pub fn in_use(&self, r: usize) -> bool
         ensures { result ≡ ((board_pile P.Net.net P.Plant.tokens self.now).rows r).in_use }
     {
-        self.rows.in_use(r)
+        !self.is_shut() && self.rows.in_use(r)
     }
 
     // What `set` would answer now.

@@ -31,7 +31,7 @@ impl<P: Plant> Monitor<P> {
     pub fn in_use(&self) -> bool
         ensures { result ≡ ((monitor_pile P.Net.net P.Plant.tokens self.now).rows 0).in_use }
     {
-        self.rows.in_use(0)
+        !self.is_shut() && self.rows.in_use(0)
     }
 
     // What `set` would answer now.

@@ -3,11 +3,11 @@ use Rattle.std.proofs.Common.{◌≡◌, ℕ, cond, not, Ok, sym, refl, ap, ◌�
 use Rattle.model.specs.declared.refusal.Refusal.TheVariants.{Controllable}
 use Rattle.model.specs.Net.{Net}
 use Rattle.model.specs.Plant.{accepted, fault_of, refuse_unless, ◌else_by◌, known, begin_answer, begun, finish_answer, finished, back_answer, gone_back}
-use Rattle.model.specs.Layer.{row_count, pile_free, rows_begun, rows_finished, rows_gone_back, pile_begun}
+use Rattle.model.specs.Layer.{row_count, pile_free, rows_begun, pile_begun}
 use Rattle.model.specs.Ledger.{Ledger, Call, grant, commit, cancel, report, net_under, free_under, room_answer, grant_checks, is_open, plus_one, minus_one, answer, next, done}
 use Rattle.model.specs.Laws.{Moved, CallsFire}
 use Rattle.model.proofs.Checks.{else_ok, known_says}
-use Rattle.model.proofs.LayerCalls.{layer_moves, moved_free}
+use Rattle.model.proofs.LayerCalls.{layer_moves}
 use Rattle.model.proofs.Running.{finish_after}
 
 module _ (l : Ledger) (t : ℕ) where
@@ -25,7 +25,7 @@ module _ (l : Ledger) (t : ℕ) where
   by_next c f g e h = subst (λ (m : Ledger). Moved l m f g) (sym (ap (λ a. cond (accepted a) (done l c) l) e)) h
 
   begins : begin_answer n free t ≡ Ok tt → pile_free (pile_begun l.pile t) ≡ begun n free t
-  begins e = moved_free size l.pile.below (begun l.pile.below l.pile.below_free t) l.pile.rows (rows_begun l.pile.below l.pile.rows t) ∙ sym ((layer_moves size l.pile.below l.pile.below_free l.pile.rows t).0 e)
+  begins e = sym ((layer_moves size l.pile.below l.pile.below_free l.pile.rows t).0 e)
 
   granted : answer l (grant t) ≡ Ok tt → Moved l (next l (grant t)) (begun n free t) (plus_one l.opened t)
   granted e = by_next (grant t) (begun n free t) (plus_one l.opened t) e
@@ -35,7 +35,7 @@ module _ (l : Ledger) (t : ℕ) where
   committed e = by_next (commit t) (finished n free t) (minus_one l.opened t) e
       (record {
         same_net = refl;
-        tokens = moved_free size l.pile.below (finished l.pile.below l.pile.below_free t) l.pile.rows (rows_finished l.pile.below l.pile.rows t) ∙ sym ((layer_moves size l.pile.below l.pile.below_free l.pile.rows t).1 (else_ok (is_open l.opened t) (finish_answer n free t) (else_ok (known n t) (is_open l.opened t else_by finish_answer n free t) e).1).1);
+        tokens = sym ((layer_moves size l.pile.below l.pile.below_free l.pile.rows t).1 (else_ok (is_open l.opened t) (finish_answer n free t) (else_ok (known n t) (is_open l.opened t else_by finish_answer n free t) e).1).1);
         counts = refl;
       })
 
@@ -43,7 +43,7 @@ module _ (l : Ledger) (t : ℕ) where
   cancelled e = by_next (cancel t) (gone_back n free t) (minus_one l.opened t) e
       (record {
         same_net = refl;
-        tokens = moved_free size l.pile.below (gone_back l.pile.below l.pile.below_free t) l.pile.rows (rows_gone_back l.pile.below l.pile.rows t) ∙ sym ((layer_moves size l.pile.below l.pile.below_free l.pile.rows t).2 (else_ok (is_open l.opened t) (back_answer n free t) (else_ok (known n t) (is_open l.opened t else_by back_answer n free t) e).1).1);
+        tokens = sym ((layer_moves size l.pile.below l.pile.below_free l.pile.rows t).2 (else_ok (is_open l.opened t) (back_answer n free t) (else_ok (known n t) (is_open l.opened t else_by back_answer n free t) e).1).1);
         counts = refl;
       })
 
@@ -56,7 +56,7 @@ module _ (l : Ledger) (t : ℕ) where
       by_next (report t) (finished n (begun n free t) t) l.opened e
       (record {
         same_net = refl;
-        tokens = moved_free size l.pile.below (finished l.pile.below (begun l.pile.below l.pile.below_free t) t) (pile_begun l.pile t).rows (rows_finished l.pile.below (pile_begun l.pile t).rows t) ∙ sym ((layer_moves size l.pile.below (begun l.pile.below l.pile.below_free t) (pile_begun l.pile t).rows t).1 ends) ∙ ap (λ f. finished n f t) (begins e₃.0);
+        tokens = sym ((layer_moves size l.pile.below (begun l.pile.below l.pile.below_free t) (rows_begun l.pile.below l.pile.rows t) t).1 ends) ∙ ap (λ f. finished n f t) (begins e₃.0);
         counts = refl;
       })
 

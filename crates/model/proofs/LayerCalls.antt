@@ -1,5 +1,5 @@
 -- A layer's calls: as below if refused below, else by its own rows; and the numbers of new rows.
-use Rattle.std.proofs.Common.{◌≡◌, ℕ, zero, suc, ◌+◌, ◌-◌, ◌<◌, ◌≤◌, max, Bool, true, false, cond, not, ◌&&◌, ltb, Some, Ok, Err, sym, refl, ap, ◌∙◌, subst, ap₂, arith, ltb-false, ltb-true}
+use Rattle.std.proofs.Common.{◌≡◌, ℕ, zero, suc, ◌+◌, ◌-◌, ◌<◌, ◌≤◌, max, Bool, true, false, cond, ltb, Some, Ok, Err, sym, refl, ap, ◌∙◌, subst, ap₂, arith, ltb-false, ltb-true}
 use mathlib.Core.Path.{fun_ext}
 use Rattle.model.specs.declared.refusal.Refusal.{Refusal}
 use Rattle.model.specs.declared.refusal.Refusal.TheVariants.{Short, OverLimit}
@@ -7,7 +7,7 @@ use Rattle.model.specs.declared.fault.Fault.{Fault}
 use Rattle.model.specs.Sizes.{control_limit}
 use Rattle.model.specs.Net.{Net}
 use Rattle.model.specs.Plant.{Answer, accepted, lowest, fault_at, refuse_at, ◌else_by◌, known, begin_answer, begun, finish_answer, finished, back_answer, gone_back}
-use Rattle.model.specs.Layer.{Row, blank, is_shut, own_place, next_layer, masked_take, masked_give, layer_net, layer_free, row_fault, rows_begin, rows_finish, rows_back, rows_begun, rows_finished, rows_gone_back, rows_moved}
+use Rattle.model.specs.Layer.{Row, blank, is_shut, own_place, next_layer, masked_take, masked_give, layer_net, layer_free, row_fault, rows_begin, rows_finish, rows_back, rows_begun, rows_finished, rows_gone_back}
 use Rattle.model.specs.Laws.{LayerBegins, LayerMoves, LayerRanges, FreshRow, NewRows, AboveAll}
 use Rattle.model.proofs.Checks.{else_ok}
 use Rattle.model.proofs.Layering.{own_row, not_own, open_net, open_free, net_opens, net_shuts, free_opens, free_shuts, layer_ranges}
@@ -182,11 +182,3 @@ at_most (suc k) layer m l h = omega (arith, at_most k layer m l (λ i a. h i (om
 
 pub above_all : AboveAll
 above_all k layer = (over_each k layer, at_most k layer)
-
--- a shut layer shows no tokens of its rows
-pub moved_free : (size : ℕ) (n : Net) (free : ℕ → ℕ) (rows moved : ℕ → Row) → layer_free size n free (rows_moved size n rows moved) ≡ layer_free size n free moved
-moved_free size n free rows moved = λ i p. at p (is_shut size n) i
-  where
-    at : (p : ℕ) (shut : Bool) → cond (not shut && own_place size n p) (cond shut (rows (p - n.places)).free (moved (p - n.places)).free) (free p) ≡ cond (not shut && own_place size n p) (moved (p - n.places)).free (free p)
-    at p true = refl
-    at p false = refl

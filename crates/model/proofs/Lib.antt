@@ -9,6 +9,7 @@ pub mod Setting
 pub mod Placing
 pub mod Layering
 pub mod LayerCalls
+pub mod Blank
 pub mod TopRow
 pub mod Building
 pub mod Reading

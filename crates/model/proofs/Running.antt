@@ -7,7 +7,7 @@ use Rattle.model.specs.Net.{Net, incidence}
 use Rattle.model.specs.Plant.{Answer, accepted, fault_of, fault_at, setting_fault, refuse_unless, ◌else_by◌, known, begin_answer, begun, finish_answer, finished, back_answer, gone_back}
 use Rattle.model.specs.Rule.{Rule, Worked}
 use Rattle.model.specs.Working.{work}
-use Rattle.model.specs.Layer.{Pile, pile_net, pile_free, rows_begun, rows_finished, rows_gone_back, pile_begun, pile_finished, pile_gone_back, row_count, row_place, board_answer, InForce, Built}
+use Rattle.model.specs.Layer.{Pile, pile_net, pile_free, rows_begun, pile_begun, pile_finished, pile_gone_back, row_count, row_place, board_answer, InForce, Built}
 use Rattle.model.specs.Ledger.{Ledger, Call, grant, commit, cancel, report, admit, new_ledger, net_under, free_under, open_count, reserved, crowded, crowded_place, room_answer, grant_checks, is_open, plus_one, minus_one, set_by, answer, done, run, answers}
 use Rattle.model.specs.Book.{Book, new_book, entered, noted, book_from, book_of, acceptances}
 use Rattle.model.specs.Promise.{Upheld, Promise}
@@ -20,7 +20,7 @@ use Rattle.model.proofs.Moving.{after}
 use Rattle.model.proofs.Setting.{set_net, set_same}
 use Rattle.model.proofs.Placing.{other_book}
 use Rattle.model.proofs.Layering.{layer_same}
-use Rattle.model.proofs.LayerCalls.{layer_moves, moved_free}
+use Rattle.model.proofs.LayerCalls.{layer_moves}
 use Rattle.model.proofs.TopRow.{net_set, set_low, set_steady, set_shape}
 use Rattle.model.proofs.Building.{Good, board_says, built_good}
 use Rattle.model.proofs.Reading.{upheld}
@@ -91,7 +91,7 @@ module _ (n : Net) (first : ℕ) (l : Ledger) (b : Book) (r : Ready n first l b)
       let e₃ = else_ok (known m t) (refuse_unless (m.controllable t) (fault_of Uncontrollable t) else_by refuse_unless (ltb (open_count m g) most_open) (fault_of TooManyOpen t)) e₁.0 in
       let e₄ = else_ok (refuse_unless (m.controllable t) (fault_of Uncontrollable t)) (refuse_unless (ltb (open_count m g) most_open) (fault_of TooManyOpen t)) e₃.1 in
       let k : t < m.moves = known_says m t e₃.0 in
-      let tokens : pile_free (pile_begun l.pile t) ≡ begun m free t = moved_free size l.pile.below (begun l.pile.below l.pile.below_free t) l.pile.rows (rows_begun l.pile.below l.pile.rows t) ∙ sym ((layer_moves size l.pile.below l.pile.below_free l.pile.rows t).0 e₂.0) in
+      let tokens : pile_free (pile_begun l.pile t) ≡ begun m free t = sym ((layer_moves size l.pile.below l.pile.below_free l.pile.rows t).0 e₂.0) in
       record {
         same = r.same;
         firsts = r.firsts;
@@ -105,7 +105,7 @@ module _ (n : Net) (first : ℕ) (l : Ledger) (b : Book) (r : Ready n first l b)
   after_commit t e =
       let e₁ = else_ok (known m t) (is_open g t else_by finish_answer m free t) e in
       let e₂ = else_ok (is_open g t) (finish_answer m free t) e₁.1 in
-      let tokens : pile_free (pile_finished l.pile t) ≡ finished m free t = moved_free size l.pile.below (finished l.pile.below l.pile.below_free t) l.pile.rows (rows_finished l.pile.below l.pile.rows t) ∙ sym ((layer_moves size l.pile.below l.pile.below_free l.pile.rows t).1 e₂.1) in
+      let tokens : pile_free (pile_finished l.pile t) ≡ finished m free t = sym ((layer_moves size l.pile.below l.pile.below_free l.pile.rows t).1 e₂.1) in
       record {
         same = r.same;
         firsts = r.firsts;
@@ -119,7 +119,7 @@ module _ (n : Net) (first : ℕ) (l : Ledger) (b : Book) (r : Ready n first l b)
   after_cancel t e =
       let e₁ = else_ok (known m t) (is_open g t else_by back_answer m free t) e in
       let e₂ = else_ok (is_open g t) (back_answer m free t) e₁.1 in
-      let tokens : pile_free (pile_gone_back l.pile t) ≡ gone_back m free t = moved_free size l.pile.below (gone_back l.pile.below l.pile.below_free t) l.pile.rows (rows_gone_back l.pile.below l.pile.rows t) ∙ sym ((layer_moves size l.pile.below l.pile.below_free l.pile.rows t).2 e₂.1) in
+      let tokens : pile_free (pile_gone_back l.pile t) ≡ gone_back m free t = sym ((layer_moves size l.pile.below l.pile.below_free l.pile.rows t).2 e₂.1) in
       record {
         same = r.same;
         firsts = r.firsts;
@@ -134,11 +134,11 @@ module _ (n : Net) (first : ℕ) (l : Ledger) (b : Book) (r : Ready n first l b)
       let e₂ = else_ok (refuse_unless (not (m.controllable t)) (fault_of Controllable t)) (begin_answer m free t else_by room_answer m free g t) e₁.1 in
       let e₃ = else_ok (begin_answer m free t) (room_answer m free g t) e₂.1 in
       let k : t < m.moves = known_says m t e₁.0 in
-      let begins : pile_free (pile_begun l.pile t) ≡ begun m free t = moved_free size l.pile.below (begun l.pile.below l.pile.below_free t) l.pile.rows (rows_begun l.pile.below l.pile.rows t) ∙ sym ((layer_moves size l.pile.below l.pile.below_free l.pile.rows t).0 e₃.0) in
+      let begins : pile_free (pile_begun l.pile t) ≡ begun m free t = sym ((layer_moves size l.pile.below l.pile.below_free l.pile.rows t).0 e₃.0) in
       let ends : finish_answer m (begun m free t) t ≡ Ok tt = finish_after m free g t k e₃.0 e₃.1 in
       let ends_here : finish_answer m (pile_free (pile_begun l.pile t)) t ≡ Ok tt = ap (λ f. finish_answer m f t) begins ∙ ends in
       let tokens : pile_free (pile_finished (pile_begun l.pile t) t) ≡ finished m (begun m free t) t
-      = moved_free size l.pile.below (finished l.pile.below (begun l.pile.below l.pile.below_free t) t) (pile_begun l.pile t).rows (rows_finished l.pile.below (pile_begun l.pile t).rows t) ∙ sym ((layer_moves size l.pile.below (begun l.pile.below l.pile.below_free t) (pile_begun l.pile t).rows t).1 ends_here) ∙ ap (λ f. finished m f t) begins in
+      = sym ((layer_moves size l.pile.below (begun l.pile.below l.pile.below_free t) (rows_begun l.pile.below l.pile.rows t) t).1 ends_here) ∙ ap (λ f. finished m f t) begins in
       let is : (i : ℕ) → finished m (begun m free t) t i ≡ free i - m.take i t + m.give i t = λ i. finished_is m (begun m free t) t ends i ∙ ap (λ x. x + m.give i t) (begun_is m free t e₃.0 i) in
       record {
         same = r.same;

@@ -11,7 +11,6 @@
 --   rows_begin, rows_finish, rows_back            what the rows of a layer answer to a move
 --   row_with      a row with other tokens
 --   rows_begun, rows_finished, rows_gone_back     the rows after it
---   rows_moved    the rows after a call of the layer: with other tokens, or as they were where the layer is shut
 --   ruled_row     the row of a worked rule L'·m ≤ b': arcs −L'·D, and b' − L'·free tokens
 --   holds_now     refused if the worked rule does not hold of the tokens that stand now
 --   row_answer    what setting a row answers, where the layer has the row
@@ -108,9 +107,6 @@ rows_finished n rows t r = row_with (rows r) ((rows r).free + masked_give n (row
 abbrev pub rows_gone_back : Net → (ℕ → Row) → ℕ → ℕ → Row
 rows_gone_back n rows t r = row_with (rows r) ((rows r).free + masked_take n (rows r) t)
 
-abbrev pub rows_moved : ℕ → Net → (ℕ → Row) → (ℕ → Row) → ℕ → Row
-rows_moved size n rows moved r = row_with (rows r) (cond (is_shut size n) (rows r).free (moved r).free)
-
 abbrev pub ruled_row : Net → (ℕ → ℕ) → Worked → Row
 ruled_row n free w = record {
   take = λ t. positive (raise n w.weight t);
@@ -162,13 +158,13 @@ pile_free p = layer_free (row_count p.top) p.below p.below_free p.rows
 abbrev pub plant_alone : Net → (ℕ → ℕ) → Pile
 plant_alone n free = record { top = plant; below = n; below_free = free; rows = λ r. blank }
 
--- an accepted begin, finish or back moves the tokens below and, where the layer is not shut, those of the rows
+-- an accepted begin, finish or back moves the tokens below and those of the rows
 abbrev pub pile_begun : Pile → ℕ → Pile
 pile_begun p t = record {
   top = p.top;
   below = p.below;
   below_free = begun p.below p.below_free t;
-  rows = rows_moved (row_count p.top) p.below p.rows (rows_begun p.below p.rows t);
+  rows = rows_begun p.below p.rows t;
 }
 
 abbrev pub pile_finished : Pile → ℕ → Pile
@@ -176,7 +172,7 @@ pile_finished p t = record {
   top = p.top;
   below = p.below;
   below_free = finished p.below p.below_free t;
-  rows = rows_moved (row_count p.top) p.below p.rows (rows_finished p.below p.rows t);
+  rows = rows_finished p.below p.rows t;
 }
 
 abbrev pub pile_gone_back : Pile → ℕ → Pile
@@ -184,7 +180,7 @@ pile_gone_back p t = record {
   top = p.top;
   below = p.below;
   below_free = gone_back p.below p.below_free t;
-  rows = rows_moved (row_count p.top) p.below p.rows (rows_gone_back p.below p.rows t);
+  rows = rows_gone_back p.below p.rows t;
 }
 
 abbrev pub with_layer : Top → Pile → Pile

@@ -1,9 +1,12 @@
-use Rattle.std.proofs.Common.{refl, ap, ◌∙◌, subst}
+use Rattle.std.proofs.Common.{◌≡◌, refl, sym, ap, ◌∙◌, subst}
 use Rattle.std.proofs.lemmas.Result.{err_from_is_err_and}
-use Rattle.model.specs.Layer.{Pile, monitor_answer}
+use Rattle.model.specs.Sizes.{monitor_rows}
+use Rattle.model.specs.Layer.{Pile, board, pile_net, pile_free, monitor_answer}
 use Rattle.rules.specs.Rules.{rule_of}
-use Rattle.layers.specs.Piles.{monitor_pile, stack_pile}
+use Rattle.layers.specs.Piles.{monitor_pile, stack_pile, new_pile}
+use Rattle.layers.specs.Rows.{only}
 use Rattle.layers.specs.Setting.{SetTo}
+use Rattle.layers.specs.Shut.{same_net, same_free}
 use Rattle.layers.proofs.Stacking.{stacked}
 use Rattle.layers.proofs.pile.build.Goals as goal
 
@@ -20,10 +23,14 @@ returns g c =
     let new = c.new-monitor.ensures.fresh.pile in
     let set = c.in_ok-set.ensures in
     let ok = set.answer ∙ ap (λ (p : Pile). monitor_answer p typed) new in
-    let after = monitor_pile g.P.Net.net g.P.Plant.tokens c.set.new.self in
+    let m = c.set.new.self in
+    let after = monitor_pile g.P.Net.net g.P.Plant.tokens m in
+    let n = g.P.Net.net m.below in
+    let over : _ ≡ new_pile board (pile_net after) (pile_free after) = c.new.ensures.fresh.pile
+    ∙ (λ i. new_pile board (sym (same_net monitor_rows n (only m.rows.row)) i) (sym (same_free monitor_rows n (only m.rows.row) (g.P.Plant.tokens m.below)) i)) in
     record {
       answer = ok;
       kept = ap (λ s. s.below) c.new.ensures.below ∙ set.below ∙ c.new-monitor.ensures.below;
       pile = stacked (g.P.Net.net c.args.plant) (g.P.Plant.tokens c.args.plant) typed (g.met.P.Net.sound c.args.plant) (g.met.P.Plant.within c.args.plant) after
-          (stack_pile g.P.Net.net g.P.Plant.tokens c.new.result) ok (subst (λ (p : Pile). SetTo p after 0 typed) new (set.set refl)) c.new.ensures.fresh.pile;
+          (stack_pile g.P.Net.net g.P.Plant.tokens c.new.result) ok (subst (λ (p : Pile). SetTo p after 0 typed) new (set.set refl)) over;
     }

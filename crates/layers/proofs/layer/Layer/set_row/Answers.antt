@@ -1,11 +1,14 @@
-use Rattle.std.proofs.Common.{◌≤◌, T, ℤ, nat_abs, sym, refl, ap, ◌∙◌, subst, w32, SFits, rules}
+use Rattle.std.proofs.Common.{◌≡◌, ◌≤◌, false, T, ℤ, nat_abs, sym, refl, ap, ◌∙◌, subst, w32, SFits, rules}
 use lib.Signed.{non_neg}
 use Rattle.std.proofs.lemmas.Int.{to_z-of_z}
 use Rattle.model.specs.Sizes.{control_limit}
+use Rattle.model.specs.Layer.{is_shut, row_count}
+use Rattle.model.proofs.TopRow.{top_says}
 use Rattle.model.specs.Rule.{weighted_free}
 use Rattle.model.proofs.Checks.{err_not_ok}
 use Rattle.rules.specs.Rules.{rule_of, worked_of}
 use Rattle.layers.specs.Piles.{pile_of}
+use Rattle.layers.specs.Shut.{changed_rows}
 use Rattle.layers.proofs.RowSet.{spare_nonneg, spare_small, holds_so, set_to}
 use Rattle.layers.proofs.layer.Layer.set_row.Goals as goal
 
@@ -36,11 +39,14 @@ returns g c =
     let p = pile_of g.R.Rows.top g.P.Net.net g.P.Plant.tokens g.R.Rows.rows s in
     let w = worked_of c.in_ok-rule.rule in
     let checks = c.in_ok-rule.ensures in
+    let size = row_count g.R.Rows.top in
+    let clear : is_shut size p.below ≡ false = (top_says p c.args.r (rule_of c.args.typed.now) (sym checks.answer)).open_layer in
+    let after = changed_rows size p.below (g.R.Rows.rows s.rows) c.args.r _ (g.R.Rows.rows c.set_rule.new.self) clear c.set_rule.ensures in
     let fits : SFits w32 c.spare-free.result = search rules in
     let spare = to_z-of_z w32 c.spare-free.result fits ∙ c.spare-free.ensures in
     record {
       answer = checks.answer;
       below = refl;
       refused = λ f e. absurd (err_not_ok f (sym e));
-      set = λ _. set_to p c.args.r (rule_of c.args.typed.now) w checks.answer (checks.works w refl) (g.met.P.Net.sound s.below) c.requires c.raises-raises.result _ c.raises-raises.ensures.value (ap nat_abs spare) _ c.set_rule.ensures;
+      set = λ _. set_to p c.args.r (rule_of c.args.typed.now) w checks.answer (checks.works w refl) (g.met.P.Net.sound s.below) c.requires c.raises-raises.result _ c.raises-raises.ensures.value (ap nat_abs spare) _ after;
     }
