@@ -1,8 +1,11 @@
 -- What begin, finish and back leave in a table.
 use Rattle.std.proofs.Common.{◌≡◌, ℕ, ◌+◌, ◌-◌, ◌<◌, ◌≤◌, cond, ◌&&◌, ltb, ◌⊎◌, List, get_or, Ok, sym, ap, ◌∙◌, ap₂, inl, inr, arith}
 use Rattle.std.proofs.lemmas.Bool.{cases_lt, cond-true, cond-false, lt-ltb, le-ltb, and_from, and_left}
-use Rattle.model.specs.Plant.{Answer, accepted}
-use Rattle.table.specs.Tables.{at}
+use Rattle.model.specs.Plant.{Answer, accepted, begin_answer}
+use Rattle.model.specs.Sizes.{most_places, most_moves}
+use Rattle.plant.proofs.Answering.{begins}
+use Rattle.table.specs.declared.table.Table.{Table}
+use Rattle.table.specs.Tables.{at, net_of, tokens_of}
 
 -- a column of arcs at places and moves that are there
 pub column_in : (n k p t : ℕ) (v : ℕ) → p < n → t < k → cond (ltb p n && ltb t k) v 0 ≡ v
@@ -41,6 +44,12 @@ enough n k p t x y l m h = omega (arith, column_in n k p t x l m, inside n p y l
 
 pub room : (n k p t x y z : ℕ) → p < n → t < k → cond (ltb p n) y 0 + cond (ltb p n && ltb t k) x 0 ≤ cond (ltb p n) z 0 → y + x ≤ z
 room n k p t x y z l m h = omega (arith, column_in n k p t x l m, inside n p y l, inside n p z l)
+
+-- an accepted begin finds at each place what it takes there
+pub lower_fits : (s : Table) (t : ℕ) → Ok tt ≡ begin_answer (net_of s) (tokens_of s) t → (s.places ≤ most_places) × (t < most_moves) × ((p : ℕ) → p < s.places → get_or s.takes (at p t) 0 ≤ get_or s.tokens p 0)
+lower_fits s t e =
+    let b = begins (net_of s) (tokens_of s) t e in
+    (s.few_places, omega (arith, b.0, s.few_moves), λ p l. enough s.places s.moves p t _ _ l b.0 (b.1 p l))
 
 -- no place holds more than its limit after a raise
 pub still_held : (n : ℕ) (was is arcs limits : List ℕ) (t : ℕ) → ((p : ℕ) → get_or was p 0 ≤ get_or limits p 1) → ((p : ℕ) → p < n → get_or was p 0 + get_or arcs (at p t) 0 ≤ get_or limits p 1)

@@ -76,6 +76,7 @@ impl Plant for Table {
         if p < self.places { self.tokens[p] } else { 0 }
     }
 
+    #[tactic(auto, using(crate::proofs::Firing::lower_fits))]
     fn begin(&mut self, t: usize) -> Result<(), Fault> {
         self.may_begin(t)?;
         lower(&mut self.tokens, &self.takes, self.places, t);

@@ -1,16 +1,10 @@
-use Rattle.std.proofs.Common.{◌≡◌, ℕ, cond, ltb, get_or, refl, arith}
+use Rattle.std.proofs.Common.{◌≡◌, ℕ, cond, ltb, get_or, refl}
 use Rattle.model.specs.Plant.{begun, begin_answer}
 use Rattle.plant.proofs.Alone.{alone_begun}
 use Rattle.plant.proofs.Answering.{begins}
 use Rattle.table.specs.Tables.{net_of, tokens_of}
-use Rattle.table.proofs.Firing.{enough, lowered}
+use Rattle.table.proofs.Firing.{lowered}
 use Rattle.table.proofs.fire.TablePlant.begin.Goals as goal
-
-pub lower-requires : goal.lower-requires
-lower-requires c =
-    let s = c.args.self.now in
-    let b = begins (net_of s) (tokens_of s) c.args.t c.in_ok-may_begin.ensures in
-    (s.few_places, omega (arith, b.0, s.few_moves), λ p l. enough s.places s.moves p c.args.t _ _ l b.0 (b.1 p l))
 
 pub returns : goal.returns
 returns c =
