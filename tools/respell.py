@@ -1,15 +1,18 @@
 #!/usr/bin/env python3
-"""Writes this repository's own definitions, lemmas and locals in snake case, and calls by other names what is refused by now.
+"""Writes this repository's own definitions, lemmas and locals in snake case, and renames what today's kit refuses.
 
 usage: python3 tools/respell.py [FOLDER]     FOLDER is the top of a checkout (the folder above tools/ by default)
 
 Files are rewritten in place: specs/, proofs/, src/ and must-fail/ of each crate, README.md and docs/.
 A hyphen becomes an underscore, a prime an apostrophe. What keeps its hyphens: names of the kit's
 libraries, the goals and facts that the check makes of a function, words of comments that are no
-names, strings, and file names. Two names that would fall together are told apart by APART.
-The word `ground` is a tactic's, so the count of ground places is called `ground_places`; the method
-`ground` of src/ keeps its name. A word of the kit may not be imported under another's name, so
-`AllByRecursion as All` becomes `AllByRecursion`. A second run changes nothing.
+names, strings, and file names. On a page, names are what stands between backquotes or is indented.
+The word `ground` is a tactic's, so the count of ground places is called `ground_places` (no proof
+here uses that tactic); the method `ground` of src/ keeps its name. A word of the kit may not be
+imported under another's name, so `AllByRecursion as All` becomes `AllByRecursion`.
+A line `look:` names a file where a new spelling stood before, so that two names may have fallen
+together: of src/ these are functions, which clauses don't see, and a definition of the same name.
+A second run changes nothing.
 """
 
 import os
@@ -25,8 +28,9 @@ USES = re.compile(r"\buse\s+(\w+(?:\.[\w+'′-]+)*?)\.(?:\{([^}]*)\}|(" + NAME +
 MODULE = re.compile(r"\buse\s+[\w.+'′-]+(?<!Given)(?<!Goals)\s+as\s+(" + NAME + r")")
 STRING = re.compile(r'("(?:[^"\\]|\\.)*")')
 COMMENT = {".antt": re.compile(r"(?<!\S)--(?=\s|$)"), ".rt": re.compile(r"//")}
+CODE = re.compile(r"(```.*?```|`[^`\n]*`|^ {4}.*$)", re.S | re.M)
 
-# Names that would fall together with another one of the same file: what they are called now.
+# Names that would fall together with another one of the same file, and what they are called now, wherever they stand.
 APART = {
     "body-at": "body_index",
 }
@@ -80,7 +84,7 @@ def place(path, top):
 
 
 def imported(text, crates):
-    """The names that a file takes from the kit, those that it takes from a function's goals or facts, and those that it gives itself."""
+    """The names that a file takes from the kit, those that it takes from a function's goals, and those that it gives itself."""
     kit, made, given = set(), set(), set()
     for path, many, one in USES.findall(text):
         parts = [part.split(" as ") for part in (many or one).split(",")]
@@ -94,7 +98,7 @@ def imported(text, crates):
 
 
 def declared(top):
-    """The names with a hyphen or a prime that the specs and lemma files of the repository declare, and which of them are fields."""
+    """The names with a hyphen or a prime that specs and lemma files of the repository declare, and which of them are fields."""
     found, fields = set(), set()
     for path in files(top, "crates", ".antt"):
         if place(path, top) in ("spec", "lemma"):
@@ -110,15 +114,25 @@ def declared(top):
     return found, fields
 
 
+def outside_strings(text, change):
+    return "".join(p if i % 2 else change(p) for i, p in enumerate(STRING.split(text)))
+
+
 def turn(text, wanted):
     """The text with each name for which wanted(name, what stands before it) holds in its new spelling; strings stay."""
-    pieces = STRING.split(text)
-    return "".join(p if i % 2 else TOKEN.sub(lambda m: spelled(m[0]) if is_old(m[0]) and wanted(m[0], p[: m.start()]) else m[0], p) for i, p in enumerate(pieces))
+
+    def names(piece):
+        def new(m):
+            return spelled(m[0]) if is_old(m[0]) and wanted(m[0], piece[: m.start()]) else m[0]
+
+        return TOKEN.sub(new, piece)
+
+    return outside_strings(text, names)
 
 
-def respelled(path, text, top, names, fields, crates):
+def wanted_in(path, text, top, names, fields, crates):
+    """The names of a file that are to be turned, as a test of the name and of what stands before it."""
     where = place(path, top)
-    kind = ".antt" if path.endswith(".antt") else ".rt"
     kit, made, given = imported(text, crates)
     modules = tuple(MODULE.findall(text))
     goals = {m[1] for line in text.split("\n") if (m := CLAUSE.match(line))} if where == "answer" else set()
@@ -128,24 +142,27 @@ def respelled(path, text, top, names, fields, crates):
             return False
         if before.endswith("."):
             return name in fields or (name in names and (where != "answer" or before[:-1].endswith(modules)))
-        return name in names or name in given or where in ("spec", "lemma") or (where == "answer" and name not in goals)
+        if name in names or name in given:
+            return True
+        return where in ("spec", "lemma") or (where == "answer" and name not in goals)
 
-    out, renamed = [], ALIAS.search(text)
+    return wanted, kit
+
+
+def respelled(path, text, top, names, fields, crates):
+    wanted, kit = wanted_in(path, text, top, names, fields, crates)
+    if place(path, top) == "edit":
+        return "\n".join(line if line.startswith("file:") else turn(line, wanted) for line in text.split("\n"))
+    kind = ".antt" if path.endswith(".antt") else ".rt"
+    renamed = ALIAS.search(text)
+    out = []
     for line in ALIAS.sub("AllByRecursion", text).split("\n"):
-        if where == "edit":
-            out.append(line if line.startswith("file:") else turn(line, wanted))
-            continue
         said, comment = code(line, kind)
-        said = GROUND[kind].sub("ground_places", said)
-        said = ALL.sub("AllByRecursion", said) if renamed else said
+        said = outside_strings(said, lambda piece: GROUND[kind].sub("ground_places", piece))
+        if renamed:
+            said = outside_strings(said, lambda piece: ALL.sub("AllByRecursion", piece))
         out.append(turn(said, wanted) + turn(comment, lambda name, before: name in names and name not in kit))
     return "\n".join(out)
-
-
-def together(text, new):
-    """The names of the text before that a name of it has now, too."""
-    stood = set(bare(text)) - {"AllByRecursion"}
-    return sorted({n for o, n in zip(bare(text), bare(new)) if o != n and n in stood})
 
 
 def bare(text):
@@ -153,10 +170,15 @@ def bare(text):
     return [m[0] for m in TOKEN.finditer(text) if not text[: m.start()].endswith(".") and text[m.end() : m.end() + 1] != "."]
 
 
+def together(text, new):
+    """The names of the text before that another name of it has now, too."""
+    stood = set(bare(text)) - {"AllByRecursion"}
+    return sorted({n for o, n in zip(bare(text), bare(new)) if o != n and n in stood})
+
+
 def page(text, names):
-    """A page of docs/: names stand between backquotes, or in a block of code."""
-    pieces = re.split(r"(```.*?```|`[^`\n]*`)", text, flags=re.S)
-    return "".join(turn(p, lambda name, before: name in names) if p.startswith("`") else p for p in pieces)
+    pieces = CODE.split(text)
+    return "".join(turn(p, lambda name, before: name in names) if i % 2 else p for i, p in enumerate(pieces))
 
 
 def main():
@@ -164,7 +186,9 @@ def main():
     crates = set(os.listdir(os.path.join(top, "crates")))
     names, fields = declared(top)
     changed = 0
-    for path in [*files(top, "crates", (".antt", ".rt", ".edit")), *files(top, "docs", ".md"), os.path.join(top, "README.md")]:
+    code_files = files(top, "crates", (".antt", ".rt", ".edit"))
+    pages = [*files(top, "docs", ".md"), os.path.join(top, "README.md")]
+    for path in [*code_files, *pages]:
         text = read(path)
         if path.endswith(".md"):
             new = page(text, names)

@@ -1,6 +1,7 @@
 -- The marked cases as one list: a sum that is read, and what the model has of rules, settings and calls.
 --   Seen             what came of a step: a sum's weights of the places it names, or an outcome of the model
 --   Case             what came, and what must
+--   sum_seen         a sum that was read, by the weights of so many places, or its refusal and byte
 --   sum_weighs       what reading a sum over places of these names comes to
 --   seen_of          a case of the model, as one of this list
 --   marked_cases     the list

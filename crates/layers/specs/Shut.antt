@@ -2,11 +2,9 @@
 use Rattle.std.proofs.Common.{◌≡◌, ℕ, ◌-◌, Bool, true, false, cond, not, ◌&&◌, sym, refl, ap, ◌∙◌}
 use Rattle.model.specs.Net.{Net}
 use Rattle.model.specs.Layer.{Row, blank, is_shut, own_place, layer_net, layer_free, change_row}
+use Rattle.model.proofs.Blank.{no_rows}
 use Rattle.model.proofs.Layering.{open_net}
 use Rattle.layers.specs.Piles.{rows_if_open}
-
-abbrev no_rows : ℕ → Row
-no_rows r = blank
 
 module _ (size : ℕ) (n : Net) (rows : ℕ → Row) where
   pub same_net : layer_net size n (rows_if_open size n rows) ≡ layer_net size n rows
@@ -23,14 +21,14 @@ module _ (size : ℕ) (n : Net) (rows : ℕ → Row) where
       at p true = refl
       at p false = refl
 
-  pub open_rows : is_shut size n ≡ false → rows_if_open size n rows ≡ rows
-  open_rows e = ap (λ (b : Bool). cond b no_rows rows) e
+  rows_open : is_shut size n ≡ false → rows_if_open size n rows ≡ rows
+  rows_open e = ap (λ (b : Bool). cond b no_rows rows) e
 
-  pub changed_rows : (r : ℕ) (new : Row) (after : ℕ → Row) → is_shut size n ≡ false → after ≡ change_row rows r new → cond (is_shut size n) no_rows after ≡ change_row (rows_if_open size n rows) r new
-  changed_rows r new after e changed = ap (λ (b : Bool). cond b no_rows after) e ∙ changed ∙ ap (λ (f : ℕ → Row). change_row f r new) (sym (open_rows e))
+  pub changed_rows : (r : ℕ) (new : Row) (after : ℕ → Row) → is_shut size n ≡ false → after ≡ change_row rows r new → rows_if_open size n after ≡ change_row (rows_if_open size n rows) r new
+  changed_rows r new after e changed = ap (λ (b : Bool). cond b no_rows after) e ∙ changed ∙ ap (λ (f : ℕ → Row). change_row f r new) (sym (rows_open e))
 
   pub row_unused : (r : ℕ) → is_shut size n ≡ false → (rows r).in_use ≡ false → (rows_if_open size n rows r).in_use ≡ false
-  row_unused r e unused = ap (λ (f : ℕ → Row). (f r).in_use) (open_rows e) ∙ unused
+  row_unused r e unused = ap (λ (f : ℕ → Row). (f r).in_use) (rows_open e) ∙ unused
 
   pub blank_rows : rows ≡ no_rows → rows_if_open size n rows ≡ no_rows
   blank_rows e = go (is_shut size n)

@@ -1,7 +1,7 @@
 -- Lists of calls, and what is promised of them.
 --   call_of      the model's call
 --   calls_of     the model's list of calls
---   promised     what the promise says of the ledger l, opened on the pile p with the rules rs in force, after the calls cs: it is that
+--   Promised     what the promise says of the ledger l, opened on the pile p with the rules rs in force, after the calls cs: it is that
 --                which the calls lead to, and all is upheld of it and of the book of the calls
 use Rattle.std.specs.Prelude.{◌≡◌, List, map}
 use Rattle.model.specs.Layer.{Pile, InForce}

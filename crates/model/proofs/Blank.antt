@@ -3,6 +3,9 @@ use Rattle.std.proofs.Common.{◌≡◌, ℕ, ◌+◌, ◌-◌, Bool, true, fals
 use Rattle.model.specs.Net.{Net}
 use Rattle.model.specs.Layer.{Row, blank, row_with, masked_take, masked_give, rows_begun, rows_finished, rows_gone_back}
 
+abbrev pub no_rows : ℕ → Row
+no_rows r = blank
+
 module _ (n : Net) (rows : ℕ → Row) (t : ℕ) (blanks : (r : ℕ) → rows r ≡ blank) where
   either : (b : Bool) → ◌≡◌ {A = ℕ} (cond b 0 0) 0
   either true = refl

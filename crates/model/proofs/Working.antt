@@ -92,7 +92,7 @@ round_derived n typed r p h a e s l some ok = record {
     mix : (k f : ℕ) (w r l c : ℤ) → w ≡ r +ℤ pos f *ℤ l → pos k *ℤ w +ℤ c ≡ (pos k *ℤ r +ℤ c) +ℤ pos (k * f) *ℤ l
     mix k f w r l c q = ap (λ x. pos k *ℤ x +ℤ c) q ∙ ap (λ x. x +ℤ c) (distrib (pos k) r (pos f *ℤ l) ∙ ap (λ x. pos k *ℤ r +ℤ x) (twice_times k f l)) ∙ swap_last (pos k *ℤ r) (pos (k * f) *ℤ l) c
 
--- ---- all rounds_from
+-- ---- all rounds
 record Done (n : Net) (typed : Rule) (w : Worked) : Type 0 where
   derived : Derived n.ground_places typed w
   still : (t : ℕ) → t < n.moves → rising n w t ≡ false

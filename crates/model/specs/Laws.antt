@@ -2,10 +2,10 @@
 -- Each statement that a contract names stands here; the words it is said in come first.
 --   SameGround     two nets with the same ground part: places, moves and arcs
 --   Derived        how a worked rule comes from the typed one: L' = R1 + r·L and b' = r·(b + 1) − 1, r ≥ 1, R1 nowhere negative
---   FiringRule          a call of a plant: refused for a missing move, else at the lowest place in the way, else accepted
+--   FiringRule     a call of a plant: refused for a missing move, else at the lowest place in the way, else accepted
 --   LayerCall      a layer's call: as below if refused below, else by its own rows
---   JustSet         what a row is that has just been set
---   FreshRow         what a new row is
+--   JustSet        what a row is that has just been set
+--   FreshRow       what a new row is
 --   Ruled          a rule of the list stands at the place; BlankPlace: the place has neither arcs nor tokens
 --   Moved          a ledger after a call that moved tokens
 --   Overfills      (by the book) some choice of open grants, committed with the move, takes a ground place over its limit

@@ -1,5 +1,6 @@
 -- The reading part of a net, by value: what its numbers are, and the ranges that they keep.
---   Net          a net: its ground places are 0 to ground − 1, its control places ground to places − 1, its moves 0 to moves − 1
+--   Net          a net: its ground places are 0 to ground_places − 1, its control places ground_places to places − 1, its moves 0 to
+--                moves − 1
 --   sum          f 0 + .. + f (k − 1)
 --   signed_sum   the same of signed numbers
 --   incidence    D(p,t): what the move t gives to the place p, less what it takes

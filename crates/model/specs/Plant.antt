@@ -9,7 +9,7 @@
 --   lowest          the lowest of the numbers i, i + 1, .. (k of them) that passes a test
 --   refuse_at       refused at the place that was found, else accepted
 --   refuse_unless   accepted if the test holds, else refused
---   _else-by_       an earlier refusal stands, else the next check answers
+--   else_by         an earlier refusal stands, else the next check answers
 --   short_place     the lowest place that has fewer tokens than the move takes
 --   over_place      the lowest place that would go over its limit, were so many tokens added to each
 --   known           refused for a missing move

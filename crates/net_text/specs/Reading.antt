@@ -1,9 +1,11 @@
 -- What the net reader answers.
 --   line_read x k s l    the net x with the line l, which is line k and starts at byte s; or the refusal of that line
 --   plant_read k s l the kind that the first line says, or its refusal
+--   end_read x s     what the end of the text answers for the net x, where the text has s bytes
 --   Step             what one line does to a net
 --   Stands bs s l    the names of the line l stand in the text bs as parts of the line that starts at s
 --   Located bs n     each name of n starts where the name of its line does: place i is line i + 1, and the moves follow the places
+--   line_count n     how many lines n has after the first
 --   Placed           a net is located, and so is the line that comes next
 --   Locates          a line keeps the names located
 --   NetRead bs r     r is what the text bs says

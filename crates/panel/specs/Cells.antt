@@ -1,7 +1,9 @@
 -- A cell by value: what its net text and its rules text say that a run depends on.
 --   no_place, no_move, no_rule    what is read past the end of the places, moves and rules
 --   limit_of, free_of, letter_of   of the net x: the limit of the place p, its tokens at the start, and whether the move t is controllable
+--   arcs_say f x     what the arcs of x say of a place and a move, by one number f of an arc; 0 where there is no arc
 --   arc_takes, arc_gives what the arcs of x say that the move t takes from the place p, and gives to it; 0 where there is no arc
+--   net_by           the net of a plant of a kind
 --   plant_net        the net of the plant that x tells of, by its kind
 --   typed_of q       the rule that a line of the rules text types
 --   Cell             names, net, tokens at the start, and rules as typed: the fixed one, and the one of each rule line

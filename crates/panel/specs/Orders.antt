@@ -2,6 +2,7 @@
 --   Order            what an order line asks for: a call of the ledger, the free tokens of a place, or nothing, since it has not the shape
 --                    of an order or a name in it is not known
 --   with_move, with_rule, with_place   an order whose name is to be a move, a rule, or a place of the pile
+--   by_word          the order of a word and a name
 --   order_of c fs    the order that a line with the fields fs is
 --   name_at ns i     the name at i
 --   move_named, place_named   how the move and the place of a fault are printed

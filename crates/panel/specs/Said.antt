@@ -1,6 +1,5 @@
 -- The cell that texts say, as they are read.
 --   line_rule        the rule that a read line types
---   no_line          what is read past the end of the rules
 --   cell_said        the cell of the net n, read from the bytes bs, and the rules r, read from the bytes rs
 use Rattle.std.specs.Prelude.{ℕ, pos, List, map, vec_items, slice_index_or}
 use Rattle.model.specs.Rule.{Rule}

@@ -1,6 +1,7 @@
 -- What the reader of rules answers. Throughout, `taken` are the names of the net's places and moves, `ps` those of its places.
 --   whole_said f       the number that the field f writes, if it has no more digits than a bound
 --   bound_said f       the bound that the field f writes, if it is one
+--   Fields ps at n s b l, FixedFields    the line l is what the fields of a rule, or those of a whole first line, say
 --   LineRead used ps k at n s b r    r answers the fields of a rule on line k, the first of which starts at `at`, after the names used
 --   FixedRead          the same for the shape of a whole first line
 --   rule_read          the rules x with the line l, which is line k and starts at byte s; or the refusal of that line

@@ -1,5 +1,7 @@
 -- What the reader of sums answers.
+--   next_of b        what the byte b is to a sum: a plus, a minus, a star, or another
 --   next_at f i      what stands at the byte i of the field f, by which its sum goes on
+--   no_sign c        whether the byte c is no sign
 --   piece_at f i     the piece of f that starts at its byte i: what stands up to the next sign
 --   number_checks, name_checks, term_checks    the checks of a piece's number, of its name, and of both, in their order
 --   number_of p      the number of the piece p, 1 if it has none

@@ -8,10 +8,10 @@ use Rattle.table.specs.declared.table.Table.{Table}
 use Rattle.table.specs.Tables.{at, net_of, tokens_of}
 
 -- a column of arcs at places and moves that are there
-pub column_in : (n k p t : ℕ) (v : ℕ) → p < n → t < k → cond (ltb p n && ltb t k) v 0 ≡ v
+column_in : (n k p t : ℕ) (v : ℕ) → p < n → t < k → cond (ltb p n && ltb t k) v 0 ≡ v
 column_in n k p t v l m = cond-true _ v 0 (and_from _ _ (lt-ltb p n l) (lt-ltb t k m))
 
-pub column_out : (n k p t : ℕ) (v : ℕ) → n ≤ p → cond (ltb p n && ltb t k) v 0 ≡ 0
+column_out : (n k p t : ℕ) (v : ℕ) → n ≤ p → cond (ltb p n && ltb t k) v 0 ≡ 0
 column_out n k p t v h = cond-false _ v 0 (and_left _ _ (le-ltb p n h))
 
 pub inside : (n p v : ℕ) → p < n → cond (ltb p n) v 0 ≡ v
@@ -39,7 +39,7 @@ module _ (n k t : ℕ) (was is arcs : List ℕ) (a : Answer) (ok : Ok tt ≡ a) 
       go (inr m) = outside n p (get_or is p 0) m ∙ sym (ap₂ (λ (x y : ℕ). x + y) (outside n p (get_or was p 0) m) (column_out n k p t (get_or arcs (at p t) 0) m))
 
 -- ---- what the calls over the arrays ask for
-pub enough : (n k p t x y : ℕ) → p < n → t < k → cond (ltb p n && ltb t k) x 0 ≤ cond (ltb p n) y 0 → x ≤ y
+enough : (n k p t x y : ℕ) → p < n → t < k → cond (ltb p n && ltb t k) x 0 ≤ cond (ltb p n) y 0 → x ≤ y
 enough n k p t x y l m h = omega (arith, column_in n k p t x l m, inside n p y l)
 
 pub room : (n k p t x y z : ℕ) → p < n → t < k → cond (ltb p n) y 0 + cond (ltb p n && ltb t k) x 0 ≤ cond (ltb p n) z 0 → y + x ≤ z

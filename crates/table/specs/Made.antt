@@ -1,6 +1,8 @@
 -- Which net texts a table can be made of, and what it then is.
+--   no_arc           what is read past the end of the arcs
 --   is_filled p      the place's limit is at least 1 and not too large, and its tokens are at most that
 --   joins n k a      the arc is not too large, and between one of n places and one of k moves
+--   some_few most n  n is at least 1 and at most so many
 --   is_fit x         x is of the kind net and has places and moves, not too many, each place filled, each arc joining
 --   amount_of        what an arc takes, or gives
 --   arc_amount       what the arcs have between place p and move t: that of the last of them, 0 if there is none
