@@ -1,4 +1,5 @@
 -- The model's pile of a layer over a plant.
+--   net_with, tokens_with    the net of a layer and the tokens at its places, by what tells of the net and the tokens below, and of its rows
 --   rows_if_open     the rows of a layer over the net, which count as blank while the layer is shut
 --   pile_of          the pile that a layer is, by what tells of its top, of the net and the tokens below, and of its rows
 --   monitor_pile, board_pile   the pile of a fixed monitor, and of a board, over plants that are told of so
@@ -14,6 +15,12 @@ use Rattle.layers.specs.declared.single.Single.{Single}
 use Rattle.layers.specs.declared.table.Table.{Table}
 use Rattle.layers.specs.declared.layer.Layer.{Layer}
 use Rattle.layers.specs.Rows.{only, rows_of}
+
+abbrev pub net_with : {P R : Type 0} → Top → (P → Net) → (R → ℕ → Row) → Layer P R → Net
+net_with top net rows s = layer_net (row_count top) (net s.below) (rows s.rows)
+
+abbrev pub tokens_with : {P R : Type 0} → Top → (P → Net) → (P → ℕ → ℕ) → (R → ℕ → Row) → Layer P R → ℕ → ℕ
+tokens_with top net tokens rows s = layer_free (row_count top) (net s.below) (tokens s.below) (rows s.rows)
 
 abbrev pub rows_if_open : ℕ → Net → (ℕ → Row) → ℕ → Row
 rows_if_open size n rows = cond (is_shut size n) (λ r. blank) rows
@@ -33,10 +40,7 @@ abbrev pub board_pile : {P : Type 0} → (P → Net) → (P → ℕ → ℕ) →
 board_pile net tokens s = pile_of board net tokens (λ t. rows_of t.rows) s
 
 abbrev pub stack_pile : {P : Type 0} → (P → Net) → (P → ℕ → ℕ) → Layer (Layer P Single) Table → Pile
-stack_pile net tokens s = board_pile
-    (λ m. layer_net (row_count monitor) (net m.below) (only m.rows.row))
-    (λ m. layer_free (row_count monitor) (net m.below) (tokens m.below) (only m.rows.row))
-    s
+stack_pile net tokens s = board_pile (net_with monitor net (λ o. only o.row)) (tokens_with monitor net tokens (λ o. only o.row)) s
 
 abbrev pub new_pile : Top → Net → (ℕ → ℕ) → Pile
 new_pile top n free = record { top = top; below = n; below_free = free; rows = λ r. blank }

@@ -1,7 +1,7 @@
 -- A shut layer shows nothing of its rows, so that they count as blank.
 use Rattle.std.proofs.Common.{◌≡◌, ℕ, ◌-◌, Bool, true, false, cond, not, ◌&&◌, sym, refl, ap, ◌∙◌}
 use Rattle.model.specs.Net.{Net}
-use Rattle.model.specs.Layer.{Row, blank, is_shut, own_place, layer_net, layer_free, change_row}
+use Rattle.model.specs.Layer.{Row, is_shut, own_place, layer_net, layer_free, change_row}
 use Rattle.model.proofs.Blank.{no_rows}
 use Rattle.model.proofs.Layering.{open_net}
 use Rattle.layers.specs.Piles.{rows_if_open}

@@ -1,7 +1,9 @@
-// A layer as a plant: each call is refused as below if refused below, else by the layer's own rows.
-ghost use Rattle.std.specs.Prelude.{◌≡◌, ℕ};
-ghost use Rattle.layers.specs.Piles.{pile_of};
-ghost use Rattle.model.specs.Layer.{layer_free, row_count};
+// A layer as a plant: each call is refused as below if refused below, else by the layer's own rows. As a pile a shut layer has blank
+// rows, so each call says besides that it leaves those of a shut layer alone.
+ghost use Rattle.std.specs.Prelude.{◌≡◌, ℕ, true, if◌then◌else◌};
+ghost use Rattle.layers.specs.Piles.{net_with, tokens_with, pile_of};
+ghost use Rattle.model.specs.Layer.{is_shut, layer_free, row_count, pile_begun, pile_finished, pile_gone_back};
+ghost use Rattle.model.specs.Plant.{accepted, begin_answer, finish_answer, back_answer, begun, finished, gone_back};
 ghost use Rattle.layers.specs.Shut.{same_net, same_free};
 ghost use Rattle.std.proofs.Common.{rules};
 
@@ -52,7 +54,13 @@ impl<P: Plant, R: Rows> Plant for Layer<P, R> {
         self.refuse_at(Refusal::OverLimit, t, self.rows.over_by_take(t))
     }
 
-    fn begin(&mut self, t: usize) -> Result<(), Fault> {
+    fn begin(&mut self, t: usize) -> Result<(), Fault>
+        ensures answer { result ≡ begin_answer (net_with R.Rows.top P.Net.net R.Rows.rows self.old) (tokens_with R.Rows.top P.Net.net P.Plant.tokens R.Rows.rows self.old) t }
+        ensures same { net_with R.Rows.top P.Net.net R.Rows.rows self.new ≡ net_with R.Rows.top P.Net.net R.Rows.rows self.old }
+        ensures after { tokens_with R.Rows.top P.Net.net P.Plant.tokens R.Rows.rows self.new ≡ begun (net_with R.Rows.top P.Net.net R.Rows.rows self.old) (tokens_with R.Rows.top P.Net.net P.Plant.tokens R.Rows.rows self.old) t }
+        ensures whole { pile_of R.Rows.top P.Net.net P.Plant.tokens R.Rows.rows self.new ≡ (if accepted result then pile_begun (pile_of R.Rows.top P.Net.net P.Plant.tokens R.Rows.rows self.old) t else pile_of R.Rows.top P.Net.net P.Plant.tokens R.Rows.rows self.old) }
+        ensures shut { is_shut (row_count R.Rows.top) (P.Net.net self.old.below) ≡ true → R.Rows.rows self.new.rows ≡ R.Rows.rows self.old.rows }
+    {
         self.may_begin(t)?;
         self.below.begin(t)?;
         if !self.is_shut() && self.below.controllable(t) {
@@ -61,7 +69,13 @@ impl<P: Plant, R: Rows> Plant for Layer<P, R> {
         Ok(())
     }
 
-    fn finish(&mut self, t: usize) -> Result<(), Fault> {
+    fn finish(&mut self, t: usize) -> Result<(), Fault>
+        ensures answer { result ≡ finish_answer (net_with R.Rows.top P.Net.net R.Rows.rows self.old) (tokens_with R.Rows.top P.Net.net P.Plant.tokens R.Rows.rows self.old) t }
+        ensures same { net_with R.Rows.top P.Net.net R.Rows.rows self.new ≡ net_with R.Rows.top P.Net.net R.Rows.rows self.old }
+        ensures after { tokens_with R.Rows.top P.Net.net P.Plant.tokens R.Rows.rows self.new ≡ finished (net_with R.Rows.top P.Net.net R.Rows.rows self.old) (tokens_with R.Rows.top P.Net.net P.Plant.tokens R.Rows.rows self.old) t }
+        ensures whole { pile_of R.Rows.top P.Net.net P.Plant.tokens R.Rows.rows self.new ≡ (if accepted result then pile_finished (pile_of R.Rows.top P.Net.net P.Plant.tokens R.Rows.rows self.old) t else pile_of R.Rows.top P.Net.net P.Plant.tokens R.Rows.rows self.old) }
+        ensures shut { is_shut (row_count R.Rows.top) (P.Net.net self.old.below) ≡ true → R.Rows.rows self.new.rows ≡ R.Rows.rows self.old.rows }
+    {
         self.may_finish(t)?;
         self.below.finish(t)?;
         if !self.is_shut() {
@@ -70,7 +84,13 @@ impl<P: Plant, R: Rows> Plant for Layer<P, R> {
         Ok(())
     }
 
-    fn back(&mut self, t: usize) -> Result<(), Fault> {
+    fn back(&mut self, t: usize) -> Result<(), Fault>
+        ensures answer { result ≡ back_answer (net_with R.Rows.top P.Net.net R.Rows.rows self.old) (tokens_with R.Rows.top P.Net.net P.Plant.tokens R.Rows.rows self.old) t }
+        ensures same { net_with R.Rows.top P.Net.net R.Rows.rows self.new ≡ net_with R.Rows.top P.Net.net R.Rows.rows self.old }
+        ensures after { tokens_with R.Rows.top P.Net.net P.Plant.tokens R.Rows.rows self.new ≡ gone_back (net_with R.Rows.top P.Net.net R.Rows.rows self.old) (tokens_with R.Rows.top P.Net.net P.Plant.tokens R.Rows.rows self.old) t }
+        ensures whole { pile_of R.Rows.top P.Net.net P.Plant.tokens R.Rows.rows self.new ≡ (if accepted result then pile_gone_back (pile_of R.Rows.top P.Net.net P.Plant.tokens R.Rows.rows self.old) t else pile_of R.Rows.top P.Net.net P.Plant.tokens R.Rows.rows self.old) }
+        ensures shut { is_shut (row_count R.Rows.top) (P.Net.net self.old.below) ≡ true → R.Rows.rows self.new.rows ≡ R.Rows.rows self.old.rows }
+    {
         self.may_back(t)?;
         self.below.back(t)?;
         if !self.is_shut() && self.below.controllable(t) {

@@ -1,5 +1,6 @@
 -- Blank rows stay blank, whatever moves.
-use Rattle.std.proofs.Common.{◌≡◌, ℕ, ◌+◌, ◌-◌, Bool, true, false, cond, ltb, sym, refl, ap, subst}
+use Rattle.std.proofs.Common.{◌≡◌, ℕ, ◌+◌, ◌-◌, Bool, cond, ltb, sym, refl, ap, subst}
+use Rattle.std.proofs.lemmas.Bool.{cond_both}
 use Rattle.model.specs.Net.{Net}
 use Rattle.model.specs.Layer.{Row, blank, row_with, masked_take, masked_give, rows_begun, rows_finished, rows_gone_back}
 
@@ -8,8 +9,7 @@ no_rows r = blank
 
 module _ (n : Net) (rows : ℕ → Row) (t : ℕ) (blanks : (r : ℕ) → rows r ≡ blank) where
   either : (b : Bool) → ◌≡◌ {A = ℕ} (cond b 0 0) 0
-  either true = refl
-  either false = refl
+  either b = cond_both b 0 0 (λ x. x ≡ 0) (λ e. refl) (λ e. refl)
 
   pub blank_begun : rows_begun n rows t ≡ rows
   blank_begun = λ i r. one r i
