@@ -2,8 +2,6 @@
 ghost use Rattle.cases.specs.Marked.{AsMarked, marked_cases};
 
 // Each case of the list comes out as it must.
-pub fn marked_cases_hold() -> u8
+pub fn marked_cases_hold()
     ensures { AsMarked marked_cases }
-{
-    0
-}
+{}

@@ -1,7 +1,7 @@
 // Where a text is refused, and why.
 use model::refusal::Refusal;
 
-#[derive(Clone, Copy)]
+#[derive(Clone, Copy, PartialEq, Eq, Debug)]
 pub struct TextFault {
     pub refusal: Refusal,
     // from 1; 0 where the whole text is meant

@@ -1,5 +1,5 @@
 // The kinds of plant that a net text can be of.
-#[derive(Clone, Copy)]
+#[derive(Clone, Copy, PartialEq, Eq, Debug)]
 pub enum Kind {
     Net,
     Bank,

@@ -4,212 +4,154 @@ ghost use Rattle.model.specs.Laws.{BeginFires, FinishFires, BackFires, BeginBack
 
 // After every list of calls on every pile that can be built: the book agrees with the ledger, each rule in force adds up to
 // its bound, a grant is refused for a rule exactly when it would break one, and reports, commits and cancels pass.
-pub fn promise_stands() -> u8
+pub fn promise_stands()
     ensures { Promise }
-{
-    0
-}
+{}
 
 // ---- plants
 
 // Begin is accepted exactly when no place is short; else the lowest short place is named.
-pub fn begin_fires() -> u8
+pub fn begin_fires()
     ensures { BeginFires }
-{
-    0
-}
+{}
 
 // Finish is accepted exactly when no place goes over its limit; else the lowest such place is named.
-pub fn finish_fires() -> u8
+pub fn finish_fires()
     ensures { FinishFires }
-{
-    0
-}
+{}
 
 // Back is accepted exactly when no place goes over its limit; else the lowest such place is named.
-pub fn back_fires() -> u8
+pub fn back_fires()
     ensures { BackFires }
-{
-    0
-}
+{}
 
 // Begin and then back: every place is as it was.
-pub fn begin_back() -> u8
+pub fn begin_back()
     ensures { BeginBack }
-{
-    0
-}
+{}
 
 // Begin and then finish: every place has moved by D.
-pub fn begin_finish() -> u8
+pub fn begin_finish()
     ensures { BeginFinish }
-{
-    0
-}
+{}
 
 // ---- rules
 
 // Every answer of working is a chain of rounds, and says how many: worked, 22, 20 or 21; or the rule is none that can be typed.
-pub fn working_says() -> u8
+pub fn working_says()
     ensures { WorkingSays }
-{
-    0
-}
+{}
 
 // A round takes the lowest move, the lowest place and the greatest common divisor, and leaves the move's raise at 0.
-pub fn is_round() -> u8
+pub fn is_round()
     ensures { IsRound }
-{
-    0
-}
+{}
 
 // The divisor of a round is the greatest common divisor.
-pub fn divisor_gcd() -> u8
+pub fn divisor_gcd()
     ensures { DivisorGcd }
-{
-    0
-}
+{}
 
 // A worked rule is L' = R1 + r·L, b' = r·(b + 1) − 1, with r ≥ 1 and no entry of R1 negative.
-pub fn work_derives() -> u8
+pub fn work_derives()
     ensures { WorkDerives }
-{
-    0
-}
+{}
 
 // No uncontrollable move raises a worked rule.
-pub fn work_quiets() -> u8
+pub fn work_quiets()
     ensures { WorkQuiets }
-{
-    0
-}
+{}
 
 // Tokens that keep the worked rule keep the typed one.
-pub fn worked_implies() -> u8
+pub fn worked_implies()
     ensures { WorkedImplies }
-{
-    0
-}
+{}
 
 // Working looks at the ground part of the net alone.
-pub fn work_on_ground() -> u8
+pub fn work_on_ground()
     ensures { WorkOnGround }
-{
-    0
-}
+{}
 
 // ---- layers
 
 // A layer's begin, finish and back are refused as below if refused below, else by its own rows.
-pub fn layer_begins() -> u8
+pub fn layer_begins()
     ensures { LayerBegins }
-{
-    0
-}
+{}
 
 // After an accepted call of a layer the tokens are those below after it, and those of its rows after it.
-pub fn layer_moves() -> u8
+pub fn layer_moves()
     ensures { LayerMoves }
-{
-    0
-}
+{}
 
 // Whatever its rows hold, a layer keeps the ranges of nets, if only their arcs are small.
-pub fn layer_keeps() -> u8
+pub fn layer_keeps()
     ensures { LayerRanges }
-{
-    0
-}
+{}
 
 // New rows have their numbers, no arcs and no tokens.
-pub fn new_rows() -> u8
+pub fn new_rows()
     ensures { NewRows }
-{
-    0
-}
+{}
 
 // A new layer is one above the highest below.
-pub fn above_all() -> u8
+pub fn above_all()
     ensures { AboveAll }
-{
-    0
-}
+{}
 
 // A row just set has the arcs −L'·D and adds up to the bound; every other place is as it was.
-pub fn set_row() -> u8
+pub fn set_row()
     ensures { SetRow }
-{
-    0
-}
+{}
 
 // ---- ledgers and books
 
 // A refused call leaves the ledger as it was.
-pub fn refused_still() -> u8
+pub fn refused_still()
     ensures { RefusedStill }
-{
-    0
-}
+{}
 
 // After an accepted call every place has the tokens of the firing rule: begin, finish, back, or begin and then finish.
-pub fn calls_fire() -> u8
+pub fn calls_fire()
     ensures { CallsFire }
-{
-    0
-}
+{}
 
 // Every call of a list is answered.
-pub fn answers_all() -> u8
+pub fn answers_all()
     ensures { AnswersAll }
-{
-    0
-}
+{}
 
 // A report is begin and finish in one call; finish never refuses it.
-pub fn report_is() -> u8
+pub fn report_is()
     ensures { ReportIs }
-{
-    0
-}
+{}
 
 // After every list: when a grant is accepted, exactly.
-pub fn grants_exact() -> u8
+pub fn grants_exact()
     ensures { GrantsExact }
-{
-    0
-}
+{}
 
 // After every list: when a report is accepted, exactly.
-pub fn reports_exact() -> u8
+pub fn reports_exact()
     ensures { ReportsExact }
-{
-    0
-}
+{}
 
 // After every list: when an admission is accepted, exactly.
-pub fn admits_exact() -> u8
+pub fn admits_exact()
     ensures { AdmitsExact }
-{
-    0
-}
+{}
 
 // After every list: no two rules are at one place, and a row is in use exactly while its rule is in the book.
-pub fn rows_stand() -> u8
+pub fn rows_stand()
     ensures { RowsAreRules }
-{
-    0
-}
+{}
 
 // After every list: the pile keeps the ranges, its limits, and the arcs −L'·D of its rules.
-pub fn standing() -> u8
+pub fn standing()
     ensures { AllStanding }
-{
-    0
-}
+{}
 
 // After every list: the marking is the first marking and D times the moves fired.
-pub fn state_equation() -> u8
+pub fn state_equation()
     ensures { StateEquation }
-{
-    0
-}
+{}
