@@ -3,7 +3,7 @@ use Rattle.std.proofs.Common.{◌≡◌, ℕ, zero, suc, ◌<◌, ◌≤◌, Boo
 use Rattle.model.specs.Sizes.{most_places, most_moves, most_arc, most_limit, most_control_arc, most_all_places}
 use Rattle.model.specs.Net.{Net, Ranges}
 use Rattle.model.specs.Cases.{nth, count_places, Move, no_such_move, nth_move, count_moves, small_net}
-use Rattle.model.proofs.Working.{and_true}
+use Rattle.std.proofs.lemmas.Bool.{and_parts}
 
 abbrev pub each_in : ℕ → ℕ → List ℕ → Bool
 each_in low high [] = true
@@ -19,9 +19,9 @@ each_move places (m ∷ ms) = arcs_in places m.takes && (arcs_in places m.gives 
 nth_in : (low high : ℕ) (xs : List ℕ) → each_in low high xs ≡ true → (i : ℕ) → i < count_places xs → (low ≤ nth xs i) × (nth xs i ≤ high)
 nth_in low high [] e i l = absurd (omega arith)
 nth_in low high (x ∷ xs) e zero l =
-    let a = and_true (leb low x) (leb x high && each_in low high xs) e in
-    let b = and_true (leb x high) (each_in low high xs) a.1 in (leb-true low x a.0, leb-true x high b.0)
-nth_in low high (x ∷ xs) e (suc i) l = nth_in low high xs (and_true (leb x high) (each_in low high xs) (and_true (leb low x) (leb x high && each_in low high xs) e).1).1 i (omega arith)
+    let a = and_parts (leb low x) (leb x high && each_in low high xs) e in
+    let b = and_parts (leb x high) (each_in low high xs) a.1 in (leb-true low x a.0, leb-true x high b.0)
+nth_in low high (x ∷ xs) e (suc i) l = nth_in low high xs (and_parts (leb x high) (each_in low high xs) (and_parts (leb low x) (leb x high && each_in low high xs) e).1).1 i (omega arith)
 
 nth_past : (xs : List ℕ) (i : ℕ) → count_places xs ≤ i → nth xs i ≡ 0
 nth_past [] i l = refl
@@ -30,8 +30,8 @@ nth_past (x ∷ xs) (suc i) l = nth_past xs i (omega arith)
 
 nth_most : (high : ℕ) (xs : List ℕ) → each_in 0 high xs ≡ true → (i : ℕ) → nth xs i ≤ high
 nth_most high [] e i = zero-le
-nth_most high (x ∷ xs) e zero = leb-true x high (and_true (leb x high) (each_in 0 high xs) (and_true (leb 0 x) (leb x high && each_in 0 high xs) e).1).0
-nth_most high (x ∷ xs) e (suc i) = nth_most high xs (and_true (leb x high) (each_in 0 high xs) (and_true (leb 0 x) (leb x high && each_in 0 high xs) e).1).1 i
+nth_most high (x ∷ xs) e zero = leb-true x high (and_parts (leb x high) (each_in 0 high xs) (and_parts (leb 0 x) (leb x high && each_in 0 high xs) e).1).0
+nth_most high (x ∷ xs) e (suc i) = nth_most high xs (and_parts (leb x high) (each_in 0 high xs) (and_parts (leb 0 x) (leb x high && each_in 0 high xs) e).1).1 i
 
 -- a move of the list has good arcs, and a missing one has none
 move_in : (places : ℕ) (ms : List Move) → each_move places ms ≡ true → (t : ℕ) → (arcs_in places (nth_move ms t).takes ≡ true) × (arcs_in places (nth_move ms t).gives ≡ true)
@@ -40,9 +40,9 @@ move_in places [] e t = (nothing, nothing)
     nothing : leb 0 places && true ≡ true
     nothing = ap (λ b. b && true) (le-leb 0 places zero-le)
 move_in places (m ∷ ms) e zero =
-    let a = and_true (arcs_in places m.takes) (arcs_in places m.gives && each_move places ms) e in
-    (a.0, (and_true (arcs_in places m.gives) (each_move places ms) a.1).0)
-move_in places (m ∷ ms) e (suc t) = move_in places ms (and_true (arcs_in places m.gives) (each_move places ms) (and_true (arcs_in places m.takes) (arcs_in places m.gives && each_move places ms) e).1).1 t
+    let a = and_parts (arcs_in places m.takes) (arcs_in places m.gives && each_move places ms) e in
+    (a.0, (and_parts (arcs_in places m.gives) (each_move places ms) a.1).0)
+move_in places (m ∷ ms) e (suc t) = move_in places ms (and_parts (arcs_in places m.gives) (each_move places ms) (and_parts (arcs_in places m.takes) (arcs_in places m.gives && each_move places ms) e).1).1 t
 
 move_past : (ms : List Move) (t : ℕ) → count_moves ms ≤ t → nth_move ms t ≡ no_such_move
 move_past [] t l = refl
@@ -50,10 +50,10 @@ move_past (m ∷ ms) zero l = absurd (omega arith)
 move_past (m ∷ ms) (suc t) l = move_past ms t (omega arith)
 
 arc_most : (places : ℕ) (xs : List ℕ) → arcs_in places xs ≡ true → (p : ℕ) → nth xs p ≤ most_arc
-arc_most places xs e p = nth_most most_arc xs (and_true (leb (count_places xs) places) (each_in 0 most_arc xs) e).1 p
+arc_most places xs e p = nth_most most_arc xs (and_parts (leb (count_places xs) places) (each_in 0 most_arc xs) e).1 p
 
 arc_past : (places : ℕ) (xs : List ℕ) → arcs_in places xs ≡ true → (p : ℕ) → places ≤ p → nth xs p ≡ 0
-arc_past places xs e p l = nth_past xs p (through (count_places xs) places p (leb-true (count_places xs) places (and_true (leb (count_places xs) places) (each_in 0 most_arc xs) e).0) l)
+arc_past places xs e p l = nth_past xs p (through (count_places xs) places p (leb-true (count_places xs) places (and_parts (leb (count_places xs) places) (each_in 0 most_arc xs) e).0) l)
   where
     through : (a b c : ℕ) → a ≤ b → b ≤ c → a ≤ c
     through a b c h k = omega arith
