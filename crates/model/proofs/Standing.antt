@@ -9,12 +9,8 @@ use Rattle.model.specs.Laws.{AllStanding, RefusedStill, AnswersAll, ReportIs, Wo
 use Rattle.model.proofs.Sums.{scaled, unscale}
 use Rattle.model.proofs.Checks.{known_says}
 use Rattle.model.proofs.Working as working
-use Rattle.model.proofs.Reading.{leq_trans}
+use Rattle.model.proofs.JustSet.{flip}
 use Rattle.model.proofs.Running.{ready, finish_after}
-
-arc_is : (z : ℤ) (a b : ℕ) → a ≡ positive z → b ≡ negative z → pos b -ℤ pos a ≡ neg_ℤ z
-arc_is (pos n) a b e k = omega (arith, ints)
-arc_is (negsuc n) a b e k = omega (arith, ints)
 
 pub standing : AllStanding
 standing p rs built cs =
@@ -25,7 +21,7 @@ standing p rs built cs =
       within = d.steady.roomy;
       few = d.steady.few;
       is_control = λ r m. ((d.steady.rules r m).low, (d.steady.rules r m).high);
-      arcs = λ r m t. arc_is (raise (net_under l) r.worked.weight t) ((net_under l).take r.place t) ((net_under l).give r.place t) ((d.steady.rules r m).takes t) ((d.steady.rules r m).gives t);
+      arcs = λ r m t. flip (raise (net_under l) r.worked.weight t) ((net_under l).take r.place t) ((net_under l).give r.place t) ((d.steady.rules r m).takes t) ((d.steady.rules r m).gives t);
       derived = λ r m. working.work_derives (net_under l) r.typed r.worked (d.steady.rules r m).working;
       worked = λ r m. (d.steady.rules r m).working;
       blank_or_ruled = d.steady.control;
@@ -63,6 +59,4 @@ pub worked_implies : WorkedImplies
 worked_implies n typed w e m h =
     let d : Derived n.ground_places typed w = working.work_derives n typed w e in
     unscale d.factor (weighted_free n typed.weight m) typed.bound d.factor_some
-    (subst (λ (x : ℤ). (pos d.factor *ℤ weighted_free n typed.weight m) ≤ℤ x) d.blend_bound
-    (leq_trans (pos d.factor *ℤ weighted_free n typed.weight m) (weighted_free n w.weight m) w.bound
-    (scaled n.ground_places d.factor w.weight d.rest typed.weight (λ i. pos (m i)) m d.rest_low d.blend (λ p l. refl)) h))
+    (omega (arith, ints, d.blend_bound, scaled n.ground_places d.factor w.weight d.rest typed.weight (λ i. pos (m i)) m d.rest_low d.blend (λ p l. refl), h))

@@ -3,6 +3,7 @@ use Rattle.std.proofs.Common.{◌≡◌, ℕ, ◌+◌, ◌<◌, ◌≤◌, Bool,
 use mathlib.Core.Path.{fun_ext}
 use mathlib.Core.List.Memᴰ
 use mathlib.Core.List.{Memᴰ}
+use Rattle.std.proofs.lemmas.Bool.{cond_both}
 use lib.Signed.{le_z}
 use borrow.Author.Tests.{not-true, both_ways}
 use borrow.Author.Differences.{ints}
@@ -23,11 +24,7 @@ use Rattle.model.proofs.Steady.{Steady, Shape}
 
 -- ---- which rows are in use
 used_more : (rows : ℕ → Row) (r : ℕ) (new : Row) (k : ℕ) → new.in_use ≡ true → (rows k).in_use ≡ true → (change_row rows r new k).in_use ≡ true
-used_more rows r new k u e = go (eqb k r)
-  where
-    go : (b : Bool) → (cond b new (rows k)).in_use ≡ true
-    go true = u
-    go false = e
+used_more rows r new k u e = cond_both (eqb k r) new (rows k) (λ x. x.in_use ≡ true) (λ q. u) (λ q. e)
 
 settled_more : (p : Pile) (r : ℕ) (w : Worked) (i : InForce) → (i.place < p.below.places) ⊎ ((k : ℕ) × (i.place ≡ row_place p k) × ((p.rows k).in_use ≡ true)) →
     (i.place < p.below.places) ⊎ ((k : ℕ) × (i.place ≡ row_place p k) × (((with_rule p r w).rows k).in_use ≡ true))
@@ -61,11 +58,8 @@ top_says p r typed e =
       held_now = e₂.1;
     }
 
-pub le_says : (x b : ℤ) → le_z x b ≡ true → x ≤ℤ b
-le_says x b e = omega (arith, ints)
-
 pub now_says : (n : Net) (free : ℕ → ℕ) (w : Worked) → holds_now n free (Ok w) ≡ Ok tt → weighted_free n w.weight free ≤ℤ w.bound
-now_says n free w e = le_says (weighted_free n w.weight free) w.bound (refuse_unless_ok (le_z (weighted_free n w.weight free) w.bound) (setting_fault Broken) e)
+now_says n free w e = omega (arith, ints, refuse_unless_ok (le_z (weighted_free n w.weight free) w.bound) (setting_fault Broken) e)
 
 -- a row of a board that is there
 pub open_row : (top : Top) (r : ℕ) → r < open_rows top → r < row_count top
@@ -165,10 +159,7 @@ module _ (p : Pile) (R : Ranges p.below) (r : ℕ) (here : r < row_count p.top) 
     spot = h.there r here says.open_layer
 
     pub set_low : (pile_net p).ground_places ≤ c
-    set_low = up (pile_net p).ground_places n.places r spot.0
-      where
-        up : (a b c : ℕ) → a ≤ b → a ≤ b + c
-        up a b c h = omega arith
+    set_low = omega (arith, spot.0)
 
     pub set_steady : ((t : ℕ) → g t ≡ 0) → Steady (pile_net (with_rule p r w)) (pile_free (with_rule p r w)) g q (in_force p r typed w ∷ rs)
     set_steady z = subst (λ (m : Net). Steady m (pile_free (with_rule p r w)) g q (in_force p r typed w ∷ rs)) (sym net_set)
