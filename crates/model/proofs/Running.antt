@@ -1,5 +1,6 @@
 -- Every list of calls keeps the invariant: the promise.
-use Rattle.std.proofs.Common.{◌≡◌, ℕ, ◌+◌, ◌-◌, ◌<◌, ◌≤◌, max, Bool, true, false, cond, not, eqb, ltb, List, [], ◌∷◌, pos, ◌+ℤ◌, ◌-ℤ◌, Ok, Err, Result, sym, refl, ap, ◌∙◌, subst, arith, ltb-false, ltb-true, eqb-true}
+use Rattle.std.proofs.Common.{inl, inr, ◌≡◌, ℕ, ◌+◌, ◌-◌, ◌<◌, ◌≤◌, max, Bool, true, false, cond, not, eqb, ltb, List, [], ◌∷◌, pos, ◌+ℤ◌, ◌-ℤ◌, Ok, Err, Result, sym, refl, ap, ◌∙◌, subst, arith, ltb-false, ltb-true, eqb-true}
+use Rattle.std.proofs.lemmas.Bool.{cases_lt}
 use Rattle.model.specs.declared.refusal.Refusal.TheVariants.{Uncontrollable, Controllable, TooManyOpen, NoRoom, NotOpen, GrantsOpen}
 use Rattle.model.specs.declared.fault.Fault.{Fault}
 use Rattle.model.specs.Sizes.{most_open}
@@ -61,10 +62,7 @@ open_says g t e = ltb-true 0 (g t) (refuse_unless_ok (ltb 0 (g t)) (fault_of Not
 
 -- begin, and then room, leave finish nothing to refuse
 pub finish_after : (n : Net) (free g : ℕ → ℕ) (t : ℕ) → t < n.moves → begin_answer n free t ≡ Ok tt → room_answer n free g t ≡ Ok tt → finish_answer n (begun n free t) t ≡ Ok tt
-finish_after n free g t k b r = finish_ok n (begun n free t) t k (λ p a. fits (begun n free t p) (free p) (n.take p t) (n.give p t) (reserved n g p) (n.limit p) (begun_is n free t b p) (begin_says n free t k b p a) (room_says n free g t r p a))
-  where
-    fits : (x f a b h l : ℕ) → x ≡ f - a → a ≤ f → f + max a b + h ≤ l + a → x + b ≤ l
-    fits x f a b h l e m k = omega arith
+finish_after n free g t k b r = finish_ok n (begun n free t) t k (λ p a. omega (arith, begun_is n free t b p, begin_says n free t k b p a, room_says n free g t r p a))
 
 module _ (n : Net) (first : ℕ) (l : Ledger) (b : Book) (r : Ready n first l b) where
   abbrev m : Net
@@ -151,14 +149,7 @@ module _ (n : Net) (first : ℕ) (l : Ledger) (b : Book) (r : Ready n first l b)
 
   -- ---- a row set
   none_open : open_count m g ≡ 0 → (t : ℕ) → g t ≡ 0
-  none_open e t = go (ltb t m.moves) refl
-    where
-      low : (a s : ℕ) → a ≤ s → s ≡ 0 → a ≡ 0
-      low a s h e = omega arith
-
-      go : (z : Bool) → ltb t m.moves ≡ z → g t ≡ 0
-      go true k = low (g t) (open_count m g) (le_sum m.moves g t (ltb-true t m.moves k)) e
-      go false k = r.steady.beyond t (ltb-false t m.moves k)
+  none_open e t = elim (cases_lt t m.moves) [ inl k ↦ omega (arith, le_sum m.moves g t k) | inr k ↦ r.steady.beyond t k ]
 
   pub work_below : (typed : Rule) → work l.pile.below typed ≡ work n typed
   work_below typed = sym (work_on_ground l.pile.below m (layer_same (row_count l.pile.top) l.pile.below l.pile.rows r.shape.based.places_all) typed) ∙ work_on_ground n m r.same typed
