@@ -56,18 +56,6 @@ blank_by n free free' rs c f (inr r) = inr r
 pub raise_is : (r : ℤ) → r ≡ pos (positive r) -ℤ pos (negative r)
 raise_is r = grind (arith, ints)
 
-grant_sum : (x b : ℤ) (f f' s s' p : ℕ) → (x +ℤ pos f) +ℤ pos s ≡ b → p ≤ f → f' ≡ f - p → s' ≡ s + p → (x +ℤ pos f') +ℤ pos s' ≡ b
-grant_sum x b f f' s s' p h l e k = omega (arith, ints)
-
-cancel_sum : (x b : ℤ) (f f' s s' p : ℕ) → (x +ℤ pos f) +ℤ pos s ≡ b → f' ≡ f + p → s ≡ s' + p → (x +ℤ pos f') +ℤ pos s' ≡ b
-cancel_sum x b f f' s s' p h e k = omega (arith, ints)
-
-commit_sum : (x x' b r : ℤ) (f f' s s' p m : ℕ) → (x +ℤ pos f) +ℤ pos s ≡ b → x' ≡ x +ℤ r → r ≡ pos p -ℤ pos m → f' ≡ f + m → s ≡ s' + p → (x' +ℤ pos f') +ℤ pos s' ≡ b
-commit_sum x x' b r f f' s s' p m h a c e k = omega (arith, ints)
-
-report_sum : (x x' b r : ℤ) (f f' s p m : ℕ) → (x +ℤ pos f) +ℤ pos s ≡ b → x' ≡ x +ℤ r → r ≡ pos p -ℤ pos m → p ≤ f → f' ≡ f - p + m → (x' +ℤ pos f') +ℤ pos s ≡ b
-report_sum x x' b r f f' s p m h a c l e = omega (arith, ints)
-
 -- ---- the calls
 abbrev pub after : Net → (ℕ → ℤ) → ℕ → ℕ → ℤ
 after n q t p = q p +ℤ incidence n p t
@@ -93,8 +81,7 @@ module _ (n : Net) (free g : ℕ → ℕ) (q : ℕ → ℤ) (rs : List InForce) 
 
       rule : (r : InForce) → Stands n free g q r → Stands n free' (plus_one g t) q r
       rule r k = stands_by n free g free' (plus_one g t) q q r k
-          (grant_sum (weighted n r.worked.weight q) r.worked.bound (free r.place) (free' r.place) (held_open n g r.worked.weight) (held_open n (plus_one g t) r.worked.weight) (n.take r.place t)
-          k.adds_up (enough r.place k.high) (e r.place) (sum_plus n.moves t g (λ u. positive (raise n r.worked.weight u)) known ∙ ap (λ x. held_open n g r.worked.weight + x) (sym (k.takes t))))
+          (omega (arith, ints, k.adds_up, enough r.place k.high, e r.place, sum_plus n.moves t g (λ u. positive (raise n r.worked.weight u)) known, k.takes t))
 
   pub cancelled : (free' : ℕ → ℕ) → ((p : ℕ) → free' p ≡ free p + n.take p t) → 0 < g t → Steady n free' (minus_one g t) q rs
   cancelled free' e open_one = record {
@@ -109,8 +96,7 @@ module _ (n : Net) (free g : ℕ → ℕ) (q : ℕ → ℤ) (rs : List InForce) 
     where
       rule : (r : InForce) → Stands n free g q r → Stands n free' (minus_one g t) q r
       rule r k = stands_by n free g free' (minus_one g t) q q r k
-          (cancel_sum (weighted n r.worked.weight q) r.worked.bound (free r.place) (free' r.place) (held_open n g r.worked.weight) (held_open n (minus_one g t) r.worked.weight) (n.take r.place t)
-          k.adds_up (e r.place) (sum_minus n.moves t g (λ u. positive (raise n r.worked.weight u)) known open_one ∙ ap (λ x. held_open n (minus_one g t) r.worked.weight + x) (sym (k.takes t))))
+          (omega (arith, ints, k.adds_up, e r.place, sum_minus n.moves t g (λ u. positive (raise n r.worked.weight u)) known open_one, k.takes t))
 
   pub committed : (free' : ℕ → ℕ) → ((p : ℕ) → free' p ≡ free p + n.give p t) → 0 < g t → Steady n free' (minus_one g t) (after n q t) rs
   committed free' e open_one = record {
@@ -125,8 +111,16 @@ module _ (n : Net) (free g : ℕ → ℕ) (q : ℕ → ℤ) (rs : List InForce) 
     where
       rule : (r : InForce) → Stands n free g q r → Stands n free' (minus_one g t) (after n q t) r
       rule r k = stands_by n free g free' (minus_one g t) q (after n q t) r k
-          (commit_sum (weighted n r.worked.weight q) (weighted n r.worked.weight (after n q t)) r.worked.bound (raise n r.worked.weight t) (free r.place) (free' r.place) (held_open n g r.worked.weight) (held_open n (minus_one g t) r.worked.weight) (positive (raise n r.worked.weight t)) (negative (raise n r.worked.weight t))
-          k.adds_up (after_weighted n r.worked.weight q t) (raise_is (raise n r.worked.weight t)) (e r.place ∙ ap (λ x. free r.place + x) (k.gives t)) (sum_minus n.moves t g (λ u. positive (raise n r.worked.weight u)) known open_one))
+          (omega (
+            arith,
+            ints,
+            k.adds_up,
+            after_weighted n r.worked.weight q t,
+            raise_is (raise n r.worked.weight t),
+            e r.place,
+            k.gives t,
+            sum_minus n.moves t g (λ u. positive (raise n r.worked.weight u)) known open_one,
+          ))
 
   pub reported : (free' : ℕ → ℕ) → ((p : ℕ) → free' p ≡ free p - n.take p t + n.give p t) → ((p : ℕ) → p < n.places → n.take p t ≤ free p) →
       ((p : ℕ) → p < n.places → free p + max (n.take p t) (n.give p t) + reserved n g p ≤ n.limit p + n.take p t) → Steady n free' g (after n q t) rs
@@ -145,6 +139,4 @@ module _ (n : Net) (free g : ℕ → ℕ) (q : ℕ → ℤ) (rs : List InForce) 
 
       rule : (r : InForce) → Stands n free g q r → Stands n free' g (after n q t) r
       rule r k = stands_by n free g free' g q (after n q t) r k
-          (report_sum (weighted n r.worked.weight q) (weighted n r.worked.weight (after n q t)) r.worked.bound (raise n r.worked.weight t) (free r.place) (free' r.place) (held_open n g r.worked.weight) (positive (raise n r.worked.weight t)) (negative (raise n r.worked.weight t))
-          k.adds_up (after_weighted n r.worked.weight q t) (raise_is (raise n r.worked.weight t)) (subst (λ (x : ℕ). x ≤ free r.place) (k.takes t) (enough r.place k.high))
-          (omega (arith, e r.place, k.takes t, k.gives t)))
+          (omega (arith, ints, k.adds_up, after_weighted n r.worked.weight q t, raise_is (raise n r.worked.weight t), enough r.place k.high, e r.place, k.takes t, k.gives t))
