@@ -1,5 +1,5 @@
 -- Exactly when an admission is accepted, by the book.
-use Rattle.std.proofs.Common.{◌≡◌, ℕ, ◌+◌, ◌<◌, ◌≤◌, Bool, true, false, not, eqb, ltb, List, ℤ, pos, ◌*ℤ◌, ◌≤ℤ◌, Ok, Err, Result, sym, refl, ap, ◌∙◌, subst, arith, ltb-true, lt-ltb, eq-eqb, eqb-true}
+use Rattle.std.proofs.Common.{◌≡◌, ℕ, ◌<◌, true, not, eqb, ltb, List, ℤ, pos, ◌*ℤ◌, ◌≤ℤ◌, Ok, Err, Result, sym, refl, ap, ◌∙◌, subst, arith, ltb-true, lt-ltb, eq-eqb, eqb-true}
 use Rattle.std.proofs.lemmas.Bool.{false_from_ne_true}
 use lib.Signed.{le_z}
 use borrow.Author.Differences.{ints}
@@ -8,10 +8,10 @@ use Rattle.model.specs.declared.fault.Fault.{Fault}
 use Rattle.model.specs.Plant.{setting_fault, refuse_unless, ◌else_by◌}
 use Rattle.model.specs.Rule.{Rule, Worked, weighted, weighted_free}
 use Rattle.model.specs.Working.{work}
-use Rattle.model.specs.Layer.{holds_now, row_count, open_rows, Pile, pile_net, pile_free, row_place, top_answer, board_answer, InForce}
-use Rattle.model.specs.Ledger.{Ledger, admit, new_ledger, net_under, free_under, open_count, taken, answer, run, answers}
+use Rattle.model.specs.Layer.{holds_now, row_count, open_rows, Pile, pile_net, pile_free, top_answer, board_answer, InForce}
+use Rattle.model.specs.Ledger.{Ledger, admit, new_ledger, net_under, free_under, open_count, answer, run, answers}
 use Rattle.model.specs.Book.{Book, book_of, acceptances}
-use Rattle.model.specs.Laws.{Ruled, RowsStand, Admission, AdmitAccepted, AdmitsExact}
+use Rattle.model.specs.Laws.{RowsStand, Admission, AdmitAccepted, AdmitsExact}
 use Rattle.model.proofs.Sums.{signed_sum_ext, sum_none, le_sum}
 use Rattle.model.proofs.Checks.{err_not_ok, else_ok, ok_else, passes_if, refuse_unless_ok}
 use Rattle.model.proofs.Working.{work_on_ground}

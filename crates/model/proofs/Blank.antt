@@ -2,7 +2,7 @@
 use Rattle.std.proofs.Common.{◌≡◌, ℕ, arith}
 use mathlib.Core.Path.{fun_ext}
 use Rattle.model.specs.Net.{Net}
-use Rattle.model.specs.Layer.{Row, blank, row_with, masked_take, masked_give, rows_begun, rows_finished, rows_gone_back}
+use Rattle.model.specs.Layer.{Row, blank, rows_begun, rows_finished, rows_gone_back}
 
 abbrev pub no_rows : ℕ → Row
 no_rows r = blank

@@ -4,13 +4,13 @@ use mathlib.Core.Path.{fun_ext}
 use Rattle.std.proofs.lemmas.Bool.Decides.{nat_tests}
 use mathlib.Core.List.Memᴰ
 use Rattle.model.specs.declared.refusal.Refusal.TheVariants.{NoRow}
-use Rattle.model.specs.Sizes.{control_limit, most_all_places, most_open}
-use Rattle.model.specs.Net.{Net, Ranges, sum}
+use Rattle.model.specs.Sizes.{control_limit, most_all_places}
+use Rattle.model.specs.Net.{Net, Ranges}
 use Rattle.model.specs.Plant.{setting_fault, refuse_unless}
 use Rattle.model.specs.Rule.{Rule, Worked, positive, weighted_free}
 use Rattle.model.specs.Working.{work}
 use Rattle.model.specs.Layer.{blank, is_shut, next_layer, Top, monitor, board, row_count, open_rows, Pile, pile_net, pile_free, plant_alone, with_layer, row_place, with_rule, top_answer, board_answer, InForce, in_force, Built, bare, monitored, boarded, monitor_set, board_set}
-use Rattle.model.specs.Ledger.{taken, reserved}
+use Rattle.model.specs.Ledger.{reserved}
 use Rattle.model.specs.Laws.{BlankPlace, Ruled}
 use Rattle.model.proofs.Sums.{sum_none, sum_zero}
 use Rattle.model.proofs.Checks.{else_ok, refuse_unless_ok}

@@ -1,14 +1,14 @@
 -- Exactly when a grant and a report are accepted, by the book.
-use Rattle.std.proofs.Common.{◌≡◌, ℕ, zero, suc, ◌+◌, ◌*◌, ◌<◌, ◌≤◌, max, Bool, true, false, not, ltb, ◌⊎◌, List, ℤ, pos, negsuc, ◌+ℤ◌, ◌-ℤ◌, ◌*ℤ◌, ◌≤ℤ◌, ◌<ℤ◌, Ok, sym, refl, ap, ◌∙◌, subst, inl, inr, arith, ltb-false, ltb-true, le-ltb}
+use Rattle.std.proofs.Common.{◌≡◌, ℕ, zero, suc, ◌+◌, ◌*◌, ◌<◌, ◌≤◌, max, Bool, true, false, not, ltb, ◌⊎◌, List, ℤ, pos, ◌-ℤ◌, Ok, sym, refl, ap, ◌∙◌, subst, inl, inr, arith, ltb-false, ltb-true, le-ltb}
 use Rattle.std.proofs.lemmas.Bool.{cases_lt, false_from_ne_true, not-true}
 use borrow.Author.Differences.{ints}
 use Rattle.model.specs.declared.refusal.Refusal.TheVariants.{Uncontrollable, Controllable, TooManyOpen, Short, NoRoom}
 use Rattle.model.specs.Sizes.{most_open}
-use Rattle.model.specs.Net.{Net, sum, signed_sum, incidence}
+use Rattle.model.specs.Net.{Net, sum, incidence}
 use Rattle.model.specs.Plant.{fault_of, fault_at, refuse_at, refuse_unless, ◌else_by◌, known, short_place, begin_answer}
 use Rattle.model.specs.Rule.{positive}
 use Rattle.model.specs.Layer.{InForce, pile_net}
-use Rattle.model.specs.Ledger.{open_count, taken, reserved, crowded, crowded_place, room_answer, grant_checks, grant_answer, report_answer, net_under, free_under, new_ledger, run, answers}
+use Rattle.model.specs.Ledger.{open_count, reserved, crowded, crowded_place, room_answer, grant_checks, grant_answer, report_answer, net_under, free_under, new_ledger, run, answers}
 use Rattle.model.specs.Book.{Book, book_of, acceptances}
 use Rattle.model.specs.Promise.{Lets, MayAsk}
 use Rattle.model.specs.Laws.{Overfills, KeepsRules, HasRoom, GrantAccepted, GrantsExact, ReportAccepted, ReportsExact, BlankPlace, Ruled}
@@ -25,26 +25,34 @@ reserved_is : (k : ℕ) (v a b : ℕ → ℕ) → sum k (λ u. v u * positive (p
 reserved_is zero v a b = refl
 reserved_is (suc k) v a b = omega (arith, reserved_is k v a b, ap (λ i. v k * i) (max_is (a k) (b k)))
 
-no_over : (q s d : ℤ) (f a b h k x l : ℕ) → q ≡ pos (f + k) → s ≤ℤ pos x → x + k ≡ h → d ≡ pos b -ℤ pos a → f + max a b + h ≤ l + a → pos l <ℤ ((q +ℤ s) +ℤ d) → ⊥
-no_over q s d f a b h k x l e1 e2 e3 e4 e5 e6 = omega (arith, ints)
-
-is_over : (q s d : ℤ) (f a b h k x l : ℕ) → q ≡ pos (f + k) → s ≡ pos x → x + k ≡ h → d ≡ pos b -ℤ pos a → f + h ≤ l → l + a < f + max a b + h → pos l <ℤ ((q +ℤ s) +ℤ d)
-is_over q s d f a b h k x l e1 e2 e3 e4 e5 e6 = omega (arith, ints)
-
 module _ (n : Net) (free g : ℕ → ℕ) (q : ℕ → ℤ) (rs : List InForce) (s : Steady n free g q rs) where
   abbrev b : Book
   b = record { q = q; v = g; rules = rs }
 
   room_fine : (t i : ℕ) → i < n.ground_places → free i + max (n.take i t) (n.give i t) + reserved n g i ≤ n.limit i + n.take i t → Overfills n b t i → ⊥
-  room_fine t i k h o = no_over (q i) (signed_sum n.moves (λ u. pos (o.choice u) *ℤ incidence n i u)) (incidence n i t) (free i) (n.take i t) (n.give i t) (reserved n g i) (taken n g i) (sum n.moves (λ u. g u * positive (incidence n i u))) (n.limit i)
-      (s.marked i k) (choice_most n.moves o.choice g (λ u. incidence n i u) o.within) (reserved_is n.moves g (λ u. n.take i u) (λ u. n.give i u)) refl h o.over
+  room_fine t i k h o = omega (
+    arith,
+    ints,
+    s.marked i k,
+    choice_most n.moves o.choice g (λ u. incidence n i u) o.within,
+    reserved_is n.moves g (λ u. n.take i u) (λ u. n.give i u),
+    h,
+    o.over,
+  )
 
   room_over : (t i : ℕ) → i < n.ground_places → n.limit i + n.take i t < free i + max (n.take i t) (n.give i t) + reserved n g i → Overfills n b t i
   room_over t i k h = record {
     choice = λ u. wise (incidence n i u) (g u);
     within = λ u. wise_le (incidence n i u) (g u);
-    over = is_over (q i) (signed_sum n.moves (λ u. pos (wise (incidence n i u) (g u)) *ℤ incidence n i u)) (incidence n i t) (free i) (n.take i t) (n.give i t) (reserved n g i) (taken n g i) (sum n.moves (λ u. g u * positive (incidence n i u))) (n.limit i)
-        (s.marked i k) (wise_sum n.moves g (λ u. incidence n i u)) (reserved_is n.moves g (λ u. n.take i u) (λ u. n.give i u)) refl (s.roomy i (in_all n free g q rs s i k)) h;
+    over = omega (
+      arith,
+      ints,
+      s.marked i k,
+      wise_sum n.moves g (λ u. incidence n i u),
+      reserved_is n.moves g (λ u. n.take i u) (λ u. n.give i u),
+      s.roomy i (in_all n free g q rs s i k),
+      h,
+    );
   }
 
   -- ---- what the ground places and the rules allow, the places allow

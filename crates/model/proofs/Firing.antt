@@ -1,11 +1,11 @@
 -- The firing rule: when begin, finish and back are accepted, which place is named, and that they undo or add up.
-use Rattle.std.proofs.Common.{◌≡◌, ℕ, ◌+◌, ◌-◌, ◌<◌, ◌≤◌, Bool, true, false, ltb, pos, ◌+ℤ◌, ◌-ℤ◌, Ok, refl, ap, ◌∙◌, arith, ltb-true, le-ltb, lt-ltb}
+use Rattle.std.proofs.Common.{◌≡◌, ℕ, ◌+◌, ◌<◌, false, ltb, Ok, ap, ◌∙◌, arith, ltb-true, le-ltb, lt-ltb}
 use Rattle.std.proofs.lemmas.Bool.{false_from_ne_true}
 use borrow.Author.Differences.{ints}
 use Rattle.model.specs.declared.refusal.Refusal.{Refusal}
 use Rattle.model.specs.declared.refusal.Refusal.TheVariants.{NoMove, Short, OverLimit}
 use Rattle.model.specs.Net.{Net}
-use Rattle.model.specs.Plant.{Answer, lowest, fault_of, fault_at, refuse_at, refuse_unless, ◌else_by◌, known, begin_answer, begun, finished, back_answer}
+use Rattle.model.specs.Plant.{Answer, lowest, fault_of, fault_at, refuse_at, refuse_unless, ◌else_by◌, known, begin_answer, begun, back_answer}
 use Rattle.model.specs.Laws.{FiringRule, BeginFires, FinishFires, BackFires, BeginBack, BeginFinish}
 use Rattle.model.proofs.Checks.{lowest_is, accepts_none, ok_else, known_ok, known_says, else_ok, begin_says, back_ok, begun_is, finished_is, gone_back_is}
 

@@ -1,5 +1,5 @@
 -- A row just set: its arcs, its tokens, and that nothing else has changed.
-use Rattle.std.proofs.Common.{◌≡◌, ℕ, ◌⊎◌, ℤ, pos, negsuc, ◌+ℤ◌, ◌-ℤ◌, neg_ℤ, ◌≤ℤ◌, refl, ap, ◌∙◌, inl, inr, arith}
+use Rattle.std.proofs.Common.{◌≡◌, ℕ, ◌⊎◌, ℤ, pos, negsuc, ◌+ℤ◌, ◌-ℤ◌, neg_ℤ, ◌≤ℤ◌, ap, ◌∙◌, inl, inr, arith}
 use borrow.Author.Differences.{ints}
 use Rattle.model.specs.Net.{Net}
 use Rattle.model.specs.Rule.{raise, positive, negative, weighted_free}

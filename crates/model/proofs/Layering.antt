@@ -1,5 +1,5 @@
 -- The net and the tokens of a layer: the ground part is as below, the ranges are kept, and a row that is set changes one place.
-use Rattle.std.proofs.Common.{◌≡◌, ℕ, ◌+◌, ◌-◌, ◌<◌, ◌≤◌, Bool, true, false, cond, not, ◌&&◌, ◌||◌, T, eqb, ltb, leb, ◌⊎◌, ℤ, pos, ◌*ℤ◌, sym, refl, ap, ◌∙◌, subst, ap₂, inl, inr, zero-le, le_trans, arith, ltb-false, ltb-true, le-ltb, lt-ltb, eq-eqb, ne_eqb, eqb-true, le-leb, leb-false, leb-true}
+use Rattle.std.proofs.Common.{◌≡◌, ℕ, ◌+◌, ◌-◌, ◌<◌, ◌≤◌, Bool, true, false, cond, not, ◌&&◌, eqb, ltb, leb, ◌⊎◌, ℤ, pos, ◌*ℤ◌, refl, ap, ◌∙◌, inl, inr, zero-le, le_trans, arith, ltb-false, ltb-true, le-ltb, leb-false, leb-true}
 use mathlib.Core.Path.{fun_ext}
 use Rattle.std.proofs.lemmas.Bool.{and_parts, and_cases, or_parts, cond_both, cond-false}
 use Rattle.std.proofs.lemmas.Bool.Decides.{nat_tests}

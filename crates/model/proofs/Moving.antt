@@ -1,11 +1,11 @@
 -- The calls that move tokens keep the invariant.
-use Rattle.std.proofs.Common.{◌≡◌, ℕ, suc, ◌+◌, ◌-◌, ◌*◌, ◌<◌, ◌≤◌, max, cond, ◌⊎◌, List, ℤ, pos, negsuc, ◌+ℤ◌, ◌-ℤ◌, sym, refl, ap, ◌∙◌, subst, inl, inr, arith, eq-eqb, ne_eqb}
+use Rattle.std.proofs.Common.{◌≡◌, ℕ, suc, ◌+◌, ◌-◌, ◌*◌, ◌<◌, ◌≤◌, max, cond, ◌⊎◌, List, ℤ, pos, ◌+ℤ◌, ◌-ℤ◌, sym, refl, ap, ◌∙◌, inl, inr, arith, eq-eqb, ne_eqb}
 use borrow.Author.Differences.{ints}
 use Rattle.model.specs.Net.{Net, sum, incidence}
 use Rattle.model.specs.Rule.{weighted, raise, positive, negative}
 use Rattle.model.specs.Layer.{InForce}
 use Rattle.model.specs.Sizes.{most_open}
-use Rattle.model.specs.Ledger.{taken, reserved, plus_one, minus_one}
+use Rattle.model.specs.Ledger.{reserved, plus_one, minus_one}
 use Rattle.model.specs.Laws.{BlankPlace, Ruled}
 use Rattle.model.proofs.Sums.{sum_one, signed_sum_add}
 use Rattle.model.proofs.Steady.{held_open, Stands, Steady}

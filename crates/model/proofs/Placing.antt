@@ -1,18 +1,17 @@
 -- A setting, and a new layer, keep the invariant.
-use Rattle.std.proofs.Common.{◌≡◌, ℕ, ◌+◌, ◌*◌, ◌<◌, ◌≤◌, max, Bool, true, false, eqb, ◌⊎◌, List, ◌∷◌, ℤ, pos, negsuc, ◌+ℤ◌, ◌-ℤ◌, ◌*ℤ◌, nat_abs, ◌≤ℤ◌, Ok, sym, refl, ap, ◌∙◌, subst, inl, inr, le_trans, arith, eqb-true}
+use Rattle.std.proofs.Common.{◌≡◌, ℕ, ◌*◌, ◌<◌, ◌≤◌, max, Bool, true, false, eqb, ◌⊎◌, List, ◌∷◌, ℤ, pos, ◌+ℤ◌, ◌-ℤ◌, ◌*ℤ◌, ◌≤ℤ◌, Ok, sym, refl, ap, ◌∙◌, subst, inl, inr, le_trans, arith, eqb-true}
 use mathlib.Core.List.Memᴰ
 use mathlib.Core.List.{Memᴰ}
 use borrow.Author.Tests.{eqb-false}
 use borrow.Author.Differences.{ints}
 use Rattle.model.specs.Net.{Net, sum}
-use Rattle.model.specs.Sizes.{most_limit, most_worked_bound, control_limit}
+use Rattle.model.specs.Sizes.{most_limit, control_limit}
 use Rattle.model.specs.Rule.{Rule, Worked, raise, positive, negative, weighted, weighted_free}
 use Rattle.model.specs.Working.{work}
 use Rattle.model.specs.Layer.{InForce}
-use Rattle.model.specs.Ledger.{taken, reserved}
 use Rattle.model.specs.Laws.{Derived, BlankPlace, Ruled}
 use Rattle.model.proofs.Sums.{sum_none, signed_sum_ext}
-use Rattle.model.proofs.Setting.{pick, pick_same, pick_other, positive_le, most_weighted, weighted_abs, set_net, set_free, set_raise, set_same, set_ranges}
+use Rattle.model.proofs.Setting.{pick, pick_same, pick_other, positive_le, weighted_abs, set_net, set_free, set_raise, set_same, set_ranges}
 use Rattle.model.proofs.Working.{work_on_ground, work_derives, work_quiets}
 use Rattle.model.proofs.Steady.{held_open, Stands, Steady}
 

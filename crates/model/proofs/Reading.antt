@@ -1,5 +1,5 @@
 -- What is promised, read off the invariant.
-use Rattle.std.proofs.Common.{◌≡◌, ℕ, ◌+◌, ◌*◌, ◌<◌, ◌≤◌, max, Bool, true, false, not, ltb, ◌⊎◌, List, ℤ, pos, negsuc, ◌+ℤ◌, ◌*ℤ◌, nat_abs, ◌≤ℤ◌, ◌<ℤ◌, Some, Ok, sym, refl, ap, ◌∙◌, subst, inl, inr, le_trans, mul-le-mul_right, mul-le-mul_left, arith, lit≤, ltb-false, ltb-true, lt-ltb}
+use Rattle.std.proofs.Common.{◌≡◌, ℕ, ◌+◌, ◌*◌, ◌<◌, ◌≤◌, max, true, false, not, ltb, ◌⊎◌, List, ℤ, pos, ◌+ℤ◌, ◌*ℤ◌, nat_abs, ◌≤ℤ◌, ◌<ℤ◌, Some, Ok, sym, refl, ap, ◌∙◌, subst, inl, inr, le_trans, mul-le-mul_right, mul-le-mul_left, arith, lit≤, ltb-false, ltb-true, lt-ltb}
 use mathlib.Core.List.{Memᴰ}
 use Rattle.std.proofs.lemmas.Bool.{cases_lt}
 use native.Mathlib.Nat.{le-max_left, max-le}
@@ -31,25 +31,19 @@ keep_sum x b y r f h e k l m = grind (arith, ints)
 abbrev pub most_row : ℕ
 most_row = most_worked_bound + most_weighted
 
-row_low : (x b : ℤ) (f h : ℕ) → (x +ℤ pos f) +ℤ pos h ≡ b → nat_abs b ≤ most_worked_bound → nat_abs x ≤ most_weighted → f ≤ most_row
-row_low x b f h e k m = omega (arith, ints)
-
 module _ (n : Net) (free g : ℕ → ℕ) (q : ℕ → ℤ) (rs : List InForce) (s : Steady n free g q rs) where
   -- ---- sizes
   pub in_all : (p : ℕ) → p < n.ground_places → p < n.places
   in_all p l = le_trans l s.ranges.places_all
 
   mark_small : (p : ℕ) → p < n.ground_places → free p + taken n g p ≤ most_limit
-  mark_small p l = go (free p) (taken n g p) (reserved n g p) (n.limit p) (sum_le n.moves (λ u. g u * n.take p u) (λ u. g u * max (n.take p u) (n.give p u)) (λ u k. mul-le-mul_left (g u) (le-max_left (n.take p u) (n.give p u)))) (s.roomy p (in_all p l)) (s.ranges.ground_limit p l).1
-    where
-      go : (f a b l : ℕ) → a ≤ b → f + b ≤ l → l ≤ most_limit → f + a ≤ most_limit
-      go f a b l h k m = omega arith
+  mark_small p l = omega (arith, sum_le n.moves (λ u. g u * n.take p u) (λ u. g u * max (n.take p u) (n.give p u)) (λ u k. mul-le-mul_left (g u) (le-max_left (n.take p u) (n.give p u))), s.roomy p (in_all p l), s.ranges.ground_limit p l)
 
   book_small : (p : ℕ) → p < n.ground_places → nat_abs (q p) ≤ most_limit
   book_small p l = subst (λ (x : ℤ). nat_abs x ≤ most_limit) (sym (s.marked p l)) (mark_small p l)
 
   stands_small : (r : InForce) → Stands n free g q r → free r.place ≤ most_row
-  stands_small r k = row_low (weighted n r.worked.weight q) r.worked.bound (free r.place) (held_open n g r.worked.weight) k.adds_up (stands_derived n free g q r k).bound_in (weighted_abs n r.worked.weight q s.ranges (stands_derived n free g q r k).weights_in book_small)
+  stands_small r k = omega (arith, ints, k.adds_up, (stands_derived n free g q r k).bound_in, weighted_abs n r.worked.weight q s.ranges (stands_derived n free g q r k).weights_in book_small)
 
   control_small : (c : ℕ) → BlankPlace n free c ⊎ Ruled rs c → free c ≤ most_row
   control_small c (inl b) = omega (arith, b.no_free)
@@ -63,14 +57,10 @@ module _ (n : Net) (free g : ℕ → ℕ) (q : ℕ → ℤ) (rs : List InForce) 
 
   -- a control place always has room: its limit is beyond what a row, a move and all open grants can bring together
   pub control_room : (t c : ℕ) → n.ground_places ≤ c → c < n.places → free c + max (n.take c t) (n.give c t) + reserved n g c ≤ n.limit c + n.take c t
-  control_room t c l k = subst (λ (x : ℕ). free c + max (n.take c t) (n.give c t) + reserved n g c ≤ x + n.take c t) (sym (s.ranges.control_limited c l k))
-      (go (free c) (n.take c t) (max (n.take c t) (n.give c t)) (reserved n g c) (control_small c (s.control c l)) (max_small c t l) (held_small c l))
+  control_room t c l k = omega (arith, enough, control_small c (s.control c l), max_small c t l, held_small c l, s.ranges.control_limited c l k)
     where
       enough : most_row + most_control_arc + most_open * most_control_arc ≤ control_limit
       enough = lit≤ tt
-
-      go : (f a m h : ℕ) → f ≤ most_row → m ≤ most_control_arc → h ≤ most_open * most_control_arc → f + m + h ≤ control_limit + a
-      go f a m h x y z = omega (arith, enough)
 
   pub no_room_fault : (t c : ℕ) → n.ground_places ≤ c → crowded_place n free g t ≡ Some c → ⊥
   no_room_fault t c l e =
@@ -82,10 +72,7 @@ module _ (n : Net) (free g : ℕ → ℕ) (q : ℕ → ℤ) (rs : List InForce) 
   open_known t o = elim (cases_lt t n.moves) [ inl l ↦ l | inr l ↦ absurd (omega (arith, s.beyond t l)) ]
 
   open_room : (t : ℕ) → 0 < g t → (p : ℕ) → p < n.places → free p + max (n.take p t) (n.give p t) ≤ n.limit p
-  open_room t o p l = go (free p) (max (n.take p t) (n.give p t)) (g t) (reserved n g p) (n.limit p) o (le_sum n.moves (λ u. g u * max (n.take p u) (n.give p u)) t (open_known t o)) (s.roomy p l)
-    where
-      go : (f m k h l : ℕ) → 0 < k → k * m ≤ h → f + h ≤ l → f + m ≤ l
-      go f m k h l o a b = omega (arith, mul-le-mul_right m o)
+  open_room t o p l = omega (arith, le_sum n.moves (λ u. g u * max (n.take p u) (n.give p u)) t (open_known t o), s.roomy p l, mul-le-mul_right (max (n.take p t) (n.give p t)) o)
 
   -- ---- a rule and a move
   pub rule_breaks : (r : InForce) (t : ℕ) → Stands n free g q r → free r.place < n.take r.place t → Breaks n (record { q = q; v = g; rules = rs }) t r

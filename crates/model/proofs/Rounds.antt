@@ -1,18 +1,18 @@
 -- What the answers of working mean: every one is a chain of rounds.
-use Rattle.std.proofs.Common.{◌≡◌, ℕ, zero, suc, ◌+◌, ◌-◌, ◌*◌, ◌/◌, ◌%◌, ◌<◌, ◌≤◌, Bool, true, false, cond, not, ◌&&◌, ◌||◌, T, eqb, ltb, leb, ℤ, pos, negsuc, ◌+ℤ◌, ◌-ℤ◌, ◌*ℤ◌, neg_ℤ, nat_abs, ◌≤ℤ◌, Some, None, Ok, Err, Option, Result, sym, refl, ap, ◌∙◌, subst, ap₂, inl, inr, zero-le, mul_comm, arith, ltb-false, ltb-true, le-ltb, lt-ltb, eq-eqb, ne_eqb, eqb-true, le-leb}
+use Rattle.std.proofs.Common.{◌≡◌, ℕ, zero, suc, ◌-◌, ◌*◌, ◌/◌, ◌%◌, ◌<◌, ◌≤◌, Bool, true, false, cond, not, ◌&&◌, ◌||◌, eqb, ltb, leb, ℤ, pos, ◌+ℤ◌, ◌-ℤ◌, ◌*ℤ◌, neg_ℤ, nat_abs, Some, None, Ok, Err, Option, Result, refl, ap, ◌∙◌, subst, ap₂, inl, inr, zero-le, mul_comm, arith, ltb-false, ltb-true, lt-ltb, eq-eqb, ne_eqb, eqb-true, le-leb}
 use Prim.Native.Nat.{◌∣◌}
 use native.Mathlib.Nat.{le_of_dvd, mod-eq-zero_of_dvd, dvd_of_mod-eq-zero, mul-div_cancel'}
 use Rattle.std.proofs.Math.IntN.{+ℤ_idr}
 use Rattle.std.proofs.lemmas.Bool.{and_parts, cases_eq}
 use lib.Signed.{lt_z}
 use borrow.Author.Tests.{eqb-false, not-true, both_ways}
-use borrow.Author.Differences.{ints, up, down, same_in, sum_is_lem, product_is, neg_is}
+use borrow.Author.Differences.{ints, product_is, neg_is}
 use Rattle.model.specs.declared.refusal.Refusal.TheVariants.{NotTyped, TooLarge}
 use Rattle.model.specs.declared.fault.Fault.{Fault}
 use Rattle.model.specs.Sizes.{most_all_places, most_weight, most_bound, most_worked_weight, most_worked_bound, most_rounds}
 use Rattle.model.specs.Net.{Net, signed_sum, incidence}
 use Rattle.model.specs.Plant.{lowest, setting_fault}
-use Rattle.model.specs.Rule.{Rule, Worked, raise, positive, in_range, all_below}
+use Rattle.model.specs.Rule.{Rule, Worked, raise, positive, in_range}
 use Rattle.model.specs.Working.{divisor, rising, falls, changed, fits, at_place, at_move, at_end, rounds_from, ground_only, is_typed, unchanged}
 use Rattle.model.specs.Rounds.{CanBeTyped, Small, Gcd, LowestRising, Round, none, more, Quiet, WorkedOut, RoundsSay, WorkSays}
 use Rattle.model.specs.Laws.{WorkingSays, IsRound, DivisorGcd}

@@ -1,5 +1,5 @@
 -- Every list of calls keeps the invariant: the promise.
-use Rattle.std.proofs.Common.{inl, inr, ◌≡◌, ℕ, ◌+◌, ◌-◌, ◌<◌, ◌≤◌, max, Bool, true, false, cond, not, eqb, ltb, List, [], ◌∷◌, pos, ◌+ℤ◌, ◌-ℤ◌, Ok, Err, Result, sym, refl, ap, ◌∙◌, subst, arith, ltb-false, ltb-true, eqb-true}
+use Rattle.std.proofs.Common.{inl, inr, ◌≡◌, ℕ, ◌+◌, ◌-◌, ◌<◌, ◌≤◌, max, cond, not, eqb, ltb, List, [], ◌∷◌, pos, ◌+ℤ◌, ◌-ℤ◌, Ok, Err, Result, sym, refl, ap, ◌∙◌, subst, arith, ltb-false, ltb-true, eqb-true}
 use Rattle.std.proofs.lemmas.Bool.{cases_lt}
 use Rattle.model.specs.declared.refusal.Refusal.TheVariants.{Uncontrollable, Controllable, TooManyOpen, NoRoom, NotOpen, GrantsOpen}
 use Rattle.model.specs.declared.fault.Fault.{Fault}

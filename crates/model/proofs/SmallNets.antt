@@ -1,6 +1,6 @@
 -- Nets by their tables keep the ranges, where the table's numbers do.
-use Rattle.std.proofs.Common.{◌≡◌, ℕ, zero, suc, ◌<◌, ◌≤◌, Bool, true, ◌&&◌, leb, List, [], ◌∷◌, refl, ap, zero-le, arith, le-leb, leb-true}
-use Rattle.model.specs.Sizes.{most_places, most_moves, most_arc, most_limit, most_control_arc, most_all_places}
+use Rattle.std.proofs.Common.{◌≡◌, ℕ, zero, suc, ◌<◌, ◌≤◌, Bool, true, ◌&&◌, leb, List, [], ◌∷◌, refl, ap, zero-le, arith, le-leb}
+use Rattle.model.specs.Sizes.{most_places, most_moves, most_arc, most_limit}
 use Rattle.model.specs.Net.{Net, Ranges}
 use Rattle.model.specs.Cases.{nth, count_places, Move, no_such_move, nth_move, count_moves, small_net}
 use Rattle.std.proofs.lemmas.Bool.{and_parts}

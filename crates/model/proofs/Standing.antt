@@ -1,9 +1,9 @@
 -- What stays true after every list, and laws of single calls: a refused call, a report.
-use Rattle.std.proofs.Common.{◌≡◌, ℕ, suc, cond, not, [], ◌∷◌, ℤ, pos, negsuc, ◌-ℤ◌, ◌*ℤ◌, neg_ℤ, ◌≤ℤ◌, Ok, Err, sym, refl, ap, subst, arith}
+use Rattle.std.proofs.Common.{◌≡◌, suc, cond, not, [], ◌∷◌, pos, Ok, Err, sym, refl, ap, arith}
 use borrow.Author.Differences.{ints}
 use Rattle.model.specs.declared.refusal.Refusal.TheVariants.{Controllable}
 use Rattle.model.specs.Plant.{Answer, accepted, fault_of, refuse_unless, ◌else_by◌, known, begin_answer, begun, finish_answer}
-use Rattle.model.specs.Rule.{raise, positive, negative, weighted_free}
+use Rattle.model.specs.Rule.{raise, weighted_free}
 use Rattle.model.specs.Ledger.{answer, new_ledger, net_under, free_under, room_answer, done, run}
 use Rattle.model.specs.Laws.{AllStanding, RefusedStill, AnswersAll, ReportIs, WorkedImplies, WorkDerives, WorkQuiets, WorkOnGround, Derived}
 use Rattle.model.proofs.Sums.{scaled, unscale}
