@@ -1,9 +1,9 @@
 -- Checks and clauses that say the same, row by row, give the same first fault.
 use Rattle.std.proofs.Common.{◌≡◌, ℕ, Bool, true, false, cond, List, [], ◌∷◌, ◌++◌, Some, None, Decides, sym, refl, ap, ◌∙◌, inl, inr, arith}
 use Rattle.std.proofs.lemmas.Bool.{cond-true, cond-false}
+use Rattle.std.proofs.lemmas.Bool.Decides.{not_from_Decides}
 use Rattle.model.specs.declared.refusal.Refusal.{Refusal}
 use Rattle.formats.specs.Texts.{Check, first_failed, Clause, Keeps, Breaks}
-use Rattle.formats.proofs.Tests.{d_fails}
 
 abbrev pub Agree : List Check → List Clause → Type 0
 Agree [] [] = Unit {0}
@@ -38,7 +38,7 @@ breaks (c ∷ cs) (r ∷ rs) d a e = go c.passes refl e (λ q. breaks cs rs d a.
     go true p q k = inr (a.0.0 p, k q)
     go false p q k =
         let same : c ≡ d = cc in
-        inl (d_fails c.passes a.0 p, sym a.1 ∙ ap (λ (x : Check). x.refusal) same, sym a.2 ∙ ap (λ (x : Check). x.byte) same)
+        inl (not_from_Decides c.passes a.0 p, sym a.1 ∙ ap (λ (x : Check). x.refusal) same, sym a.2 ∙ ap (λ (x : Check). x.byte) same)
 
 pub fails : (cs : List Check) (rs : List Clause) (n : Refusal) (i : ℕ) → Agree cs rs → Breaks rs n i → (d : Check) × (first_failed cs ≡ Some d) × (d.refusal ≡ n) × (d.byte ≡ i)
 fails [] [] n i a b = absurd b

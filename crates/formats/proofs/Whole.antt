@@ -4,13 +4,14 @@ use Rattle.std.specs.List.{AllByRecursion}
 use Rattle.std.proofs.lemmas.List.{map_push, length_push}
 use Rattle.std.proofs.ByRecursion.{All-push}
 use Rattle.std.proofs.lemmas.Bool.{cond-true, cond-false}
+use Rattle.std.proofs.lemmas.Bool.Decides.{Decides-and, Decides-eqb, Decides-like, Decides-ltb, not_from_Decides}
 use Rattle.model.specs.declared.refusal.Refusal.{Refusal}
 use Rattle.model.specs.declared.refusal.Refusal.TheVariants.{Form, Byte, NotOfKind}
 use Rattle.formats.specs.declared.fault.TextFault.{TextFault}
 use Rattle.formats.specs.Words.{Allowed, is_allowed, joined, unlines, fields, lines, last}
 use Rattle.formats.specs.Texts.{Check, fault, first_failed, Keeps, Breaks, Reader, ended, unless, read_lines, is_text, bad_byte, unless_byte, read_text, Meaning, written, Proper, so_far, lines_so_far, RightSoFar, IsText, newlines, Refused, Exact, Refusals, EachText}
 use Rattle.formats.specs.Texts.Refused.{no_text, no_byte, no_line, no_end}
-use Rattle.formats.proofs.Tests.{d_same, d_and, d_leb, d_ltb, d_eqb, d_fails, d_allowed}
+use Rattle.formats.proofs.Tests.{d_leb, d_allowed}
 use Rattle.formats.proofs.Pieces.{joined_fields, fields_joined, unlines_append, lines_unlines, unlines_lines, lines_clean, lines_line, last_unlines}
 use Rattle.formats.proofs.Bytes.{Clean, not_tab, unlines_allowed, rows_no_ten}
 use Rattle.formats.proofs.Ordered.{Agree, keeps, passes, breaks, fails}
@@ -18,9 +19,8 @@ use Rattle.formats.proofs.Ordered.{Agree, keeps, passes, breaks, fails}
 -- ---- the whole text's checks
 pub d_text : (bs : List ℕ) → Decides (is_text bs) (IsText bs)
 d_text bs =
-    d_same (is_text bs)
-    (d_and (ltb 0 (length bs)) (leb (length bs) 16384 && eqb (last bs) 10) (d_ltb 0 (length bs)) (d_and (leb (length bs) 16384) (eqb (last bs) 10) (d_leb (length bs) 16384) (d_eqb (last bs) 10)))
-    (λ h. (h.0, h.1.0, h.1.1)) (λ h. (h.0, (h.1, h.2)))
+    Decides-like (is_text bs) (λ h. (h.0, h.1.0, h.1.1)) (λ h. (h.0, (h.1, h.2)))
+    (Decides-and (ltb 0 (length bs)) (leb (length bs) 16384 && eqb (last bs) 10) (Decides-ltb 0 (length bs)) (Decides-and (leb (length bs) 16384) (eqb (last bs) 10) (d_leb (length bs) 16384) (Decides-eqb (last bs) 10)))
 
 pub bytes_fine : (k i : ℕ) (bs : List ℕ) → bad_byte k i bs ≡ None → AllByRecursion Allowed bs
 bytes_fine k i [] e = tt
@@ -77,7 +77,7 @@ bytes_bad k i (b ∷ bs) f e = go (is_allowed b) refl e (λ q. bytes_bad (cond (
           back = bs;
           splits = refl;
           good = tt;
-          wrong = d_fails (is_allowed b) (d_allowed b) p;
+          wrong = not_from_Decides (is_allowed b) (d_allowed b) p;
           told = sym same ∙ ap₂ (λ (u v : ℕ). fault Byte u v) (omega arith) (omega arith);
         }
 
@@ -203,7 +203,7 @@ module _ {X : Type 0} (R : Reader X) (M : Meaning X) (law : Lawful R M) where
   module _ (bs : List ℕ) (text : IsText bs) (allowed : AllByRecursion Allowed bs) where
     at_end : (x : X) → M.Right x → bs ≡ written M x → (t : Bool) → R.is_whole x ≡ t → Outcome M bs (cond t (Ok x) (Err (fault NotOfKind 0 (length (written M x)))))
     at_end x r e true w = (r, (law.d_whole x).0 w, e, text.1)
-    at_end x r e false w = no_end text allowed x r e (d_fails (R.is_whole x) (law.d_whole x) w) (ap (λ (z : List ℕ). fault NotOfKind 0 (length z)) (sym e))
+    at_end x r e false w = no_end text allowed x r e (not_from_Decides (R.is_whole x) (law.d_whole x) w) (ap (λ (z : List ℕ). fault NotOfKind 0 (length z)) (sym e))
 
     finish : (s : Option X) → RightSoFar M s → bs ≡ so_far M s ++ [] → Outcome M bs (ended R s (length (so_far M s)))
     finish None r e = absurd (omega (arith, text.0, ap length e))
@@ -239,7 +239,7 @@ module _ {X : Type 0} (R : Reader X) (M : Meaning X) (law : Lawful R M) where
 
   told_go : (bs : List ℕ) (t : Bool) → is_text bs ≡ t → Outcome M bs (cond t (unless_byte (bad_byte 1 0 bs) (read_lines R None 1 0 (lines bs))) (Err (fault Form 0 0)))
   told_go bs true e = told_bytes bs ((d_text bs).0 e) (bad_byte 1 0 bs) refl
-  told_go bs false e = no_text (d_fails (is_text bs) (d_text bs) e) refl
+  told_go bs false e = no_text (not_from_Decides (is_text bs) (d_text bs) e) refl
 
   told_text : (bs : List ℕ) → Outcome M bs (read_text R bs)
   unfolding read_text
