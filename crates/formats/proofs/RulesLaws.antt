@@ -20,7 +20,7 @@ use Rattle.formats.specs.Laws.{RulesExact, RulesRefusals, RulesDecided}
 use Rattle.formats.proofs.Tests.{own, value_of, d_leb, refused, d_name, d_new, d_numeral, numeral_is}
 use Rattle.formats.proofs.Bytes.{Clean, name_shown, decimal_shown, word_shown}
 use Rattle.formats.proofs.Ordered.{Agree, agree_append}
-use Rattle.formats.proofs.NetAdding.{all_pop, all_split, apart_push, apart_pop, apart_split}
+use Rattle.formats.proofs.NetAdding.{one_more, all_pop, all_split, apart_push, apart_pop, apart_split}
 use Rattle.formats.proofs.SumLaws.{keeps_split, keeps_append, sum_agree, field_in, field_out, sum_shown}
 use Rattle.formats.proofs.Whole.{rows_so_far, Traced, Lawful, begin, extend, from_end, exact, refusals, each_text}
 
@@ -163,9 +163,6 @@ rule_out taken ps x r h =
       record { few = omega arith; each = a.0; different = d.0 },
       (l, (a.1.0, All-append (λ m. m ≡ r.name → ⊥) taken (rule_names x) a.1.1 d.1, a.1.2, a.1.3)),
     )
-
-one_more : (rs qs : List (List (List ℕ))) (a b : List (List ℕ)) → qs ≡ rs ++ (a ∷ []) → a ≡ b → qs ≡ rs ++ (b ∷ [])
-one_more rs qs a b e q = e ∙ ap (λ (z : List (List ℕ)). rs ++ (z ∷ [])) q
 
 -- ---- the laws, for the names of a net
 agree_line : (taken ps : List (List ℕ)) (s : Option RulesText) (at : ℕ) (fs : List (List ℕ)) → Agree ((rules_reader taken ps).checks s at fs) ((rules_meaning taken ps).clauses s at fs)

@@ -3,7 +3,8 @@ use Rattle.std.proofs.Common.{◌≡◌, ℕ, ◌+◌, ◌≤◌, Bool, true, fa
 use Rattle.std.specs.List.{AllByRecursion}
 use Rattle.std.proofs.lemmas.List.{map_push, length_push}
 use Rattle.std.proofs.ByRecursion.{All-push}
-use Rattle.std.proofs.lemmas.Bool.{cond-true, cond-false}
+use Rattle.std.proofs.lemmas.Bool.{cond-true, cond-false, false_from_ne_true}
+use Rattle.std.proofs.lemmas.Option.{none-some}
 use Rattle.std.proofs.lemmas.Bool.Decides.{Decides-and, Decides-eqb, Decides-like, Decides-ltb, not_from_Decides}
 use Rattle.model.specs.declared.refusal.Refusal.{Refusal}
 use Rattle.model.specs.declared.refusal.Refusal.TheVariants.{Form, Byte, NotOfKind}
@@ -29,7 +30,7 @@ bytes_fine k i (b ∷ bs) e = go (is_allowed b) refl e (λ q. bytes_fine (cond (
     go : (t : Bool) → is_allowed b ≡ t → cond t (bad_byte (cond (eqb b 10) (k + 1) k) (i + 1) bs) (Some (fault Byte k i)) ≡ None
         → (bad_byte (cond (eqb b 10) (k + 1) k) (i + 1) bs ≡ None → AllByRecursion Allowed bs) → AllByRecursion Allowed (b ∷ bs)
     go true p q r = ((d_allowed b).0 p, r q)
-    go false p q r = let z : ◌≡◌ {A = ℕ} 0 1 = cc in absurd (omega arith)
+    go false p q r = absurd (none-some (fault Byte k i) (sym q))
 
 pub fine_bytes : (k i : ℕ) (bs : List ℕ) → AllByRecursion Allowed bs → bad_byte k i bs ≡ None
 fine_bytes k i [] h = refl
@@ -46,14 +47,10 @@ pub record FirstBad (k i : ℕ) (bs : List ℕ) (f : TextFault) : Type 0 where
   pub told : f ≡ fault Byte (k + newlines front) (i + length front)
 
 line_on : (b k n : ℕ) → cond (eqb b 10) (k + 1) k + n ≡ k + (cond (eqb b 10) 1 0 + n)
-line_on b k n = go (eqb b 10)
-  where
-    go : (t : Bool) → cond t (k + 1) k + n ≡ k + (cond t 1 0 + n)
-    go true = omega arith
-    go false = omega arith
+line_on b k n = grind arith
 
 pub bytes_bad : (k i : ℕ) (bs : List ℕ) (f : TextFault) → bad_byte k i bs ≡ Some f → FirstBad k i bs f
-bytes_bad k i [] f e = let z : ◌≡◌ {A = ℕ} 0 1 = cc in absurd (omega arith)
+bytes_bad k i [] f e = absurd (none-some f e)
 bytes_bad k i (b ∷ bs) f e = go (is_allowed b) refl e (λ q. bytes_bad (cond (eqb b 10) (k + 1) k) (i + 1) bs f q)
   where
     go : (t : Bool) → is_allowed b ≡ t → cond t (bad_byte (cond (eqb b 10) (k + 1) k) (i + 1) bs) (Some (fault Byte k i)) ≡ Some f
@@ -83,12 +80,8 @@ bytes_bad k i (b ∷ bs) f e = go (is_allowed b) refl e (λ q. bytes_bad (cond (
 
 pub bad_bytes : (k i : ℕ) (front : List ℕ) (b : ℕ) (back : List ℕ) → AllByRecursion Allowed front → (Allowed b → ⊥) → bad_byte k i (front ++ (b ∷ back)) ≡ Some (fault Byte (k + newlines front) (i + length front))
 bad_bytes k i [] b back h n =
-    cond-false _ (bad_byte (cond (eqb b 10) (k + 1) k) (i + 1) back) (Some (fault Byte k i)) (no (is_allowed b) refl)
+    cond-false _ (bad_byte (cond (eqb b 10) (k + 1) k) (i + 1) back) (Some (fault Byte k i)) (false_from_ne_true (is_allowed b) (λ e. n ((d_allowed b).0 e)))
     ∙ ap₂ (λ (u v : ℕ). Some (fault Byte u v)) (omega arith) (omega arith)
-  where
-    no : (t : Bool) → is_allowed b ≡ t → is_allowed b ≡ false
-    no true e = absurd (n ((d_allowed b).0 e))
-    no false e = e
 bad_bytes k i (c ∷ front) b back h n =
     cond-true _ (bad_byte (cond (eqb c 10) (k + 1) k) (i + 1) (front ++ (b ∷ back))) (Some (fault Byte k i)) ((d_allowed c).1 h.0)
     ∙ bad_bytes (cond (eqb c 10) (k + 1) k) (i + 1) front b back h.1 n
@@ -171,19 +164,6 @@ from_end P none more xs = from_end_go P more [] xs none
 abbrev Outcome : {X : Type 0} → Meaning X → List ℕ → Result X TextFault → Type 0
 Outcome M bs (Ok x) = M.Right x × M.Complete x × (bs ≡ written M x) × (length bs ≤ 16384)
 Outcome M bs (Err f) = Refused M bs f
-
-same_ok : {X : Type 0} (r : Result X TextFault) (x y : X) → r ≡ Ok x → r ≡ Ok y → x ≡ y
-same_ok r x y p q = cc
-
-same_err : {X : Type 0} (r : Result X TextFault) (f g : TextFault) → r ≡ Err f → r ≡ Err g → f ≡ g
-same_err r f g p q = cc
-
-never : {X : Type 0} (r : Result X TextFault) (x : X) (f : TextFault) → r ≡ Ok x → r ≡ Err f → ⊥
-never r x f p q = let z : ◌≡◌ {A = ℕ} 0 1 = cc in omega arith
-
-false_from : {P : Type 0} (b : Bool) → (b ≡ true → P) → (P → ⊥) → b ≡ false
-false_from true d n = absurd (n (d refl))
-false_from false d n = refl
 
 module _ {X : Type 0} (R : Reader X) (M : Meaning X) (law : Lawful R M) where
   so_far_rows : (s : Option X) → (so_far M s ≡ unlines (map joined (rows_so_far M s))) × (lines_so_far M s ≡ length (rows_so_far M s))
@@ -288,7 +268,7 @@ module _ {X : Type 0} (R : Reader X) (M : Meaning X) (law : Lawful R M) where
   -- ---- refusals
   refuse_text : (bs : List ℕ) → (IsText bs → ⊥) → read_text R bs ≡ Err (fault Form 0 0)
   unfolding read_text
-  refuse_text bs n = cond-false _ (unless_byte (bad_byte 1 0 bs) (read_lines R None 1 0 (lines bs))) (Err (fault Form 0 0)) (false_from (is_text bs) (d_text bs).0 n)
+  refuse_text bs n = cond-false _ (unless_byte (bad_byte 1 0 bs) (read_lines R None 1 0 (lines bs))) (Err (fault Form 0 0)) (false_from_ne_true (is_text bs) (λ e. n ((d_text bs).0 e)))
 
   refuse_byte : (bs : List ℕ) → IsText bs → (front : List ℕ) (b : ℕ) (back : List ℕ) → bs ≡ front ++ (b ∷ back) → AllByRecursion Allowed front → (Allowed b → ⊥) → read_text R bs ≡ Err (fault Byte (newlines front + 1) (length front))
   unfolding read_text
@@ -311,7 +291,7 @@ module _ {X : Type 0} (R : Reader X) (M : Meaning X) (law : Lawful R M) where
   refuse_end : (bs : List ℕ) → IsText bs → AllByRecursion Allowed bs → (x : X) → M.Right x → bs ≡ written M x → (M.Complete x → ⊥) → read_text R bs ≡ Err (fault NotOfKind 0 (length bs))
   refuse_end bs t a x r e n =
       read_through bs t a ∙ ap (λ (z : List ℕ). read_lines R None 1 0 (lines z)) e ∙ read_written x r
-      ∙ cond-false (R.is_whole x) (Ok x) (Err (fault NotOfKind 0 (length (written M x)))) (false_from (R.is_whole x) (law.d_whole x).0 n)
+      ∙ cond-false (R.is_whole x) (Ok x) (Err (fault NotOfKind 0 (length (written M x)))) (false_from_ne_true (R.is_whole x) (λ e. n ((law.d_whole x).0 e)))
       ∙ ap (λ (z : List ℕ). Err (fault NotOfKind 0 (length z))) (sym e)
 
   refuse : (bs : List ℕ) (f : TextFault) → Refused M bs f → read_text R bs ≡ Err f
@@ -332,10 +312,10 @@ module _ {X : Type 0} (R : Reader X) (M : Meaning X) (law : Lawful R M) where
   each_text bs = (
     which bs (read_text R bs) (told_text bs),
     (
-      λ x y p q e d. same_ok (read_text R bs) x y ((exact bs x).1 p e) ((exact bs y).1 q d),
+      λ x y p q e d. let r = (exact bs x).1 p e in let s = (exact bs y).1 q d in cc,
       (
-        λ f g p q. same_err (read_text R bs) f g (refuse bs f p) (refuse bs g q),
-        λ x f p e q. never (read_text R bs) x f ((exact bs x).1 p e) (refuse bs f q),
+        λ f g p q. let r = refuse bs f p in let s = refuse bs g q in cc,
+        λ x f p e q. grind (arith, (exact bs x).1 p e, refuse bs f q),
       ),
     ),
   )
