@@ -1,5 +1,5 @@
 -- The reader's checks and the clauses say the same, row by row.
-use Rattle.std.proofs.Common.{◌≡◌, ℕ, ◌+◌, ◌^◌, ◌≤◌, false, not, ◌&&◌, ◌||◌, eqb, ◌⊎◌, List, length, Some, None, codes, Decides, Option, refl, ap, inl, inr, arith}
+use Rattle.std.proofs.Common.{◌≡◌, ℕ, ◌+◌, ◌^◌, ◌≤◌, not, ◌&&◌, ◌||◌, eqb, ◌⊎◌, List, length, Some, None, codes, Decides, Option, refl, ap, inl, inr, arith}
 use Rattle.std.specs.Str.{bytes_eq}
 use Rattle.std.proofs.lemmas.Slice.Eq.{bytes_eq-Decides}
 use Rattle.std.proofs.lemmas.Bool.{false≢true}

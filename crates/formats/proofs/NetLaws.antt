@@ -1,12 +1,12 @@
 -- The text that is written for a right net is read back, line by line; and the laws of the net text.
-use Rattle.std.proofs.Common.{◌≡◌, ℕ, ◌^◌, ◌<◌, Bool, true, false, ◌⊎◌, List, [], ◌∷◌, ◌++◌, map, length, get_or, codes, decimal, Option, sym, refl, ap, ap₂, subst₂, inl, inr, arith}
+use Rattle.std.proofs.Common.{◌≡◌, ℕ, ◌<◌, Bool, true, false, ◌⊎◌, List, [], ◌∷◌, ◌++◌, map, length, get_or, codes, decimal, Option, sym, refl, ap, ap₂, subst₂, inl, inr, arith}
 use lib.ListN.{length-map}
 use Rattle.std.specs.List.{AllByRecursion}
 use Rattle.std.specs.Str.{bytes_eq}
 use Rattle.std.proofs.ByRecursion.{All-get_or}
 use Rattle.formats.specs.declared.kind.Kind.{Kind}
 use Rattle.formats.specs.declared.kind.Kind.TheVariants.{Net, Bank, Line}
-use Rattle.formats.specs.Words.{Shown, IsName, Numeral, Known, value, index_of}
+use Rattle.formats.specs.Words.{Shown, IsName, value, index_of}
 use Rattle.formats.specs.NetText.{Place, Move, Arc, NetText, net, place_names, move_names, letter_of, plant_row, place_row, move_row, arc_row, Right}
 use Rattle.formats.specs.NetClauses.{shape, net_meaning}
 use Rattle.formats.specs.ReadNet.{begun, add_place, add_move, add_arc, net_reader}
