@@ -99,33 +99,14 @@ module _ (size : ℕ) (n : Net) (rows : ℕ → Row) where
       places_few = few;
       moves_some = R.moves_some;
       moves_few = R.moves_few;
-      ground_arcs = λ p t l. (
-        stretch (λ x. x ≤ most_arc) n.places (n.places + size) p (masked_take n (rows (p - n.places)) t) (n.take p t) (λ a b. absurd (omega (arith, R.places_all))) (λ d. (R.ground_arcs p t l).0),
-        stretch (λ x. x ≤ most_arc) n.places (n.places + size) p (masked_give n (rows (p - n.places)) t) (n.give p t) (λ a b. absurd (omega (arith, R.places_all))) (λ d. (R.ground_arcs p t l).1),
-      );
-      ground_limit = λ p l. stretch (λ x. (1 ≤ x) × (x ≤ most_limit)) n.places (n.places + size) p control_limit (n.limit p) (λ a b. absurd (omega (arith, R.places_all))) (λ d. R.ground_limit p l);
-      ground_plain = λ p l. (
-        stretch (λ x. x ≡ 0) n.places (n.places + size) p (next_layer n.places n.layer) (n.layer p) (λ a b. absurd (omega (arith, R.places_all))) (λ d. (R.ground_plain p l).0),
-        stretch (λ x. x ≡ 0) n.places (n.places + size) p (p - n.places) (n.row p) (λ a b. absurd (omega (arith, R.places_all))) (λ d. (R.ground_plain p l).1),
-      );
-      control_arcs = λ p t l. (
-        stretch (λ x. x ≤ most_control_arc) n.places (n.places + size) p (masked_take n (rows (p - n.places)) t) (n.take p t) (λ a b. masked (n.controllable t) ((rows (p - n.places)).take t) (small (p - n.places) t (row_low p a b)).0) (λ d. (R.control_arcs p t l).0),
-        stretch (λ x. x ≤ most_control_arc) n.places (n.places + size) p (masked_give n (rows (p - n.places)) t) (n.give p t) (λ a b. masked (ltb t n.moves) ((rows (p - n.places)).give t) (small (p - n.places) t (row_low p a b)).1) (λ d. (R.control_arcs p t l).1),
-      );
-      control_limited = λ p l m. stretch (λ x. x ≡ control_limit) n.places (n.places + size) p control_limit (n.limit p) (λ a b. refl) (λ d. R.control_limited p l (elim d [ inl b ↦ b | inr b ↦ absurd (omega arith) ]));
-      control_free = λ p t l e. stretch (λ x. x ≡ 0) n.places (n.places + size) p (masked_take n (rows (p - n.places)) t) (n.take p t) (λ a b. cond-false (n.controllable t) ((rows (p - n.places)).take t) 0 e) (λ d. R.control_free p t l e);
-      no_place = λ p t l. (
-        stretch (λ x. x ≡ 0) n.places (n.places + size) p (masked_take n (rows (p - n.places)) t) (n.take p t) (λ a b. absurd (omega arith)) (λ d. (R.no_place p t (omega arith)).0),
-        stretch (λ x. x ≡ 0) n.places (n.places + size) p (masked_give n (rows (p - n.places)) t) (n.give p t) (λ a b. absurd (omega arith)) (λ d. (R.no_place p t (omega arith)).1),
-        stretch (λ x. x ≡ 0) n.places (n.places + size) p control_limit (n.limit p) (λ a b. absurd (omega arith)) (λ d. (R.no_place p t (omega arith)).2),
-        stretch (λ x. x ≡ 0) n.places (n.places + size) p (next_layer n.places n.layer) (n.layer p) (λ a b. absurd (omega arith)) (λ d. (R.no_place p t (omega arith)).3),
-        stretch (λ x. x ≡ 0) n.places (n.places + size) p (p - n.places) (n.row p) (λ a b. absurd (omega arith)) (λ d. (R.no_place p t (omega arith)).4),
-      );
-      no_move = λ p t l. (
-        stretch (λ x. x ≡ 0) n.places (n.places + size) p (masked_take n (rows (p - n.places)) t) (n.take p t) (λ a b. cond-false (n.controllable t) ((rows (p - n.places)).take t) 0 (R.no_move p t l).2) (λ d. (R.no_move p t l).0),
-        stretch (λ x. x ≡ 0) n.places (n.places + size) p (masked_give n (rows (p - n.places)) t) (n.give p t) (λ a b. cond-false (ltb t n.moves) ((rows (p - n.places)).give t) 0 (le-ltb t n.moves l)) (λ d. (R.no_move p t l).1),
-        (R.no_move p t l).2,
-      );
+      ground_arcs = λ p t l. grind (arith, nat_tests, R.ground_arcs p t l, R.places_all);
+      ground_limit = λ p l. grind (arith, nat_tests, R.ground_limit p l, R.places_all);
+      ground_plain = λ p l. grind (arith, nat_tests, R.ground_plain p l, R.places_all);
+      control_arcs = λ p t l. grind (arith, nat_tests, R.control_arcs p t l, small (p - n.places) t);
+      control_limited = λ p l m. grind (arith, nat_tests, R.control_limited p l);
+      control_free = λ p t l e. grind (arith, nat_tests, R.control_free p t l e);
+      no_place = λ p t l. grind (arith, nat_tests, R.no_place p t);
+      no_move = λ p t l. grind (arith, nat_tests, R.no_move p t l);
     }
 
     pub layer_ranges : Ranges (layer_net size n rows)

@@ -2,6 +2,7 @@
 use Rattle.std.proofs.Common.{inl, inr, ◌≡◌, ℕ, zero, suc, ◌*◌, ◌<◌, ◌≤◌, false, cond, eqb, ℤ, pos, ◌-ℤ◌, ◌*ℤ◌, nat_abs, ◌≤ℤ◌, refl, ap, ◌∙◌, le_trans, mul-le-mul_right, arith, eq-eqb, ne_eqb, eqb-true}
 use lib.IntN.{*ℤ-zero}
 use Rattle.std.proofs.lemmas.Bool.{cases_lt, cond_both, eqb-false}
+use Rattle.std.proofs.lemmas.Bool.Decides.{nat_tests}
 use borrow.Author.Differences.{ints}
 use Rattle.model.specs.Net.{Net, Ranges, signed_sum, incidence}
 use Rattle.model.specs.Sizes.{most_places, most_arc, most_limit, most_control_arc, most_worked_weight}
@@ -112,28 +113,12 @@ module _ (n : Net) (c : ℕ) (w : Worked) (low : n.ground_places ≤ c) where
       places_few = R.places_few;
       moves_some = R.moves_some;
       moves_few = R.moves_few;
-      ground_arcs = λ p t l. (
-        pick (λ x. x ≤ most_arc) p c (positive (raise n w.weight t)) (n.take p t) (λ e. absurd (omega arith)) (λ d. (R.ground_arcs p t l).0),
-        pick (λ x. x ≤ most_arc) p c (negative (raise n w.weight t)) (n.give p t) (λ e. absurd (omega arith)) (λ d. (R.ground_arcs p t l).1),
-      );
+      ground_arcs = λ p t l. grind (arith, nat_tests, R.ground_arcs p t l);
       ground_limit = R.ground_limit;
       ground_plain = R.ground_plain;
-      control_arcs = λ p t l. (
-        pick (λ x. x ≤ most_control_arc) p c (positive (raise n w.weight t)) (n.take p t) (λ e. arc_take t) (λ d. (R.control_arcs p t l).0),
-        pick (λ x. x ≤ most_control_arc) p c (negative (raise n w.weight t)) (n.give p t) (λ e. arc_give t) (λ d. (R.control_arcs p t l).1),
-      );
+      control_arcs = λ p t l. grind (arith, nat_tests, R.control_arcs p t l, arc_take t, arc_give t);
       control_limited = R.control_limited;
-      control_free = λ p t l e. pick (λ x. x ≡ 0) p c (positive (raise n w.weight t)) (n.take p t) (λ d. untaken t e) (λ d. R.control_free p t l e);
-      no_place = λ p t l. (
-        pick (λ x. x ≡ 0) p c (positive (raise n w.weight t)) (n.take p t) (λ e. absurd (omega arith)) (λ d. (R.no_place p t l).0),
-        pick (λ x. x ≡ 0) p c (negative (raise n w.weight t)) (n.give p t) (λ e. absurd (omega arith)) (λ d. (R.no_place p t l).1),
-        (R.no_place p t l).2,
-        (R.no_place p t l).3,
-        (R.no_place p t l).4,
-      );
-      no_move = λ p t l. (
-        pick (λ x. x ≡ 0) p c (positive (raise n w.weight t)) (n.take p t) (λ e. ap positive (raise_none n w.weight R t l)) (λ d. (R.no_move p t l).0),
-        pick (λ x. x ≡ 0) p c (negative (raise n w.weight t)) (n.give p t) (λ e. ap negative (raise_none n w.weight R t l)) (λ d. (R.no_move p t l).1),
-        (R.no_move p t l).2,
-      );
+      control_free = λ p t l e. grind (arith, nat_tests, R.control_free p t l e, untaken t e);
+      no_place = λ p t l. grind (arith, nat_tests, R.no_place p t l);
+      no_move = λ p t l. grind (arith, nat_tests, R.no_move p t l, ap positive (raise_none n w.weight R t l), ap negative (raise_none n w.weight R t l));
     }

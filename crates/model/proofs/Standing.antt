@@ -8,7 +8,7 @@ use Rattle.model.specs.Ledger.{answer, new_ledger, net_under, free_under, room_a
 use Rattle.model.specs.Laws.{AllStanding, RefusedStill, AnswersAll, ReportIs, WorkedImplies, WorkDerives, WorkQuiets, WorkOnGround, Derived}
 use Rattle.model.proofs.Sums.{scaled, unscale}
 use Rattle.model.proofs.Checks.{known_says}
-use Rattle.model.proofs.Working as working
+pub use Rattle.model.proofs.Working.{work_derives, work_quiets, work_on_ground}
 use Rattle.model.proofs.JustSet.{flip}
 use Rattle.model.proofs.Running.{ready, finish_after}
 
@@ -22,7 +22,7 @@ standing p rs built cs =
       few = d.steady.few;
       is_control = λ r m. ((d.steady.rules r m).low, (d.steady.rules r m).high);
       arcs = λ r m t. flip (raise (net_under l) r.worked.weight t) ((net_under l).take r.place t) ((net_under l).give r.place t) ((d.steady.rules r m).takes t) ((d.steady.rules r m).gives t);
-      derived = λ r m. working.work_derives (net_under l) r.typed r.worked (d.steady.rules r m).working;
+      derived = λ r m. work_derives (net_under l) r.typed r.worked (d.steady.rules r m).working;
       worked = λ r m. (d.steady.rules r m).working;
       blank_or_ruled = d.steady.control;
     }
@@ -46,17 +46,8 @@ report_is l t = go (known (net_under l) t) refl (refuse_unless (not ((net_under 
     go (Ok u) e (Ok w) (Ok v) d (Ok x) h = sym (finish_after (net_under l) (free_under l) l.opened t (known_says (net_under l) t e) d h)
 
 -- ---- working
-pub work_derives : WorkDerives
-work_derives n typed w e = working.work_derives n typed w e
-
-pub work_quiets : WorkQuiets
-work_quiets n typed w e = working.work_quiets n typed w e
-
-pub work_on_ground : WorkOnGround
-work_on_ground n m s typed = working.work_on_ground n m s typed
-
 pub worked_implies : WorkedImplies
 worked_implies n typed w e m h =
-    let d : Derived n.ground_places typed w = working.work_derives n typed w e in
+    let d : Derived n.ground_places typed w = work_derives n typed w e in
     unscale d.factor (weighted_free n typed.weight m) typed.bound d.factor_some
     (omega (arith, ints, d.blend_bound, scaled n.ground_places d.factor w.weight d.rest typed.weight (λ i. pos (m i)) m d.rest_low d.blend (λ p l. refl), h))
