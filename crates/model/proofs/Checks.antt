@@ -2,10 +2,12 @@
 use Rattle.std.proofs.Common.{◌≡◌, ℕ, zero, suc, ◌+◌, ◌-◌, ◌<◌, ◌≤◌, Bool, true, false, cond, ltb, ◌⊎◌, Some, None, Ok, Err, Option, sym, refl, ap, ◌∙◌, subst, ap₂, inl, inr, zero-le, arith, ltb-false, ltb-true, le-ltb, lt-ltb}
 use Rattle.std.proofs.lemmas.Bool.{both_ways, cases_eq, cases_order}
 use Rattle.std.proofs.lemmas.Option.{none-some}
-use Rattle.model.specs.declared.refusal.Refusal.TheVariants.{NoMove, Controllable, Short, NoRoom, OverLimit}
+use Rattle.model.specs.declared.refusal.Refusal.TheVariants.{NoMove, Uncontrollable, Controllable, TooManyOpen, Short, NoRoom, OverLimit}
 use Rattle.model.specs.declared.fault.Fault.{Fault}
+use Rattle.model.specs.Sizes.{most_open}
 use Rattle.model.specs.Net.{Net}
 use Rattle.model.specs.Plant.{Answer, accepted, lowest, fault_of, fault_at, refuse_at, refuse_unless, ◌else_by◌, known, short_place, over_place, begin_answer, begun, finish_answer, finished, back_answer, gone_back}
+use Rattle.model.specs.Ledger.{open_count, grant_checks}
 use Rattle.model.specs.Promise.{RefusedAt}
 
 -- ---- lowest
@@ -110,13 +112,23 @@ begin_is n free t l = ok_else (known n t) (refuse_at (fault_at n Short t) (short
 pub begin_says : (n : Net) (free : ℕ → ℕ) (t : ℕ) → t < n.moves → begin_answer n free t ≡ Ok tt → (p : ℕ) → p < n.places → n.take p t ≤ free p
 begin_says n free t l e p k = ltb-false (free p) (n.take p t) (lowest_none (λ i. ltb (free i) (n.take i t)) n.places (refuse_at_ok (fault_at n Short t) (short_place n free t) (sym (begin_is n free t l) ∙ e)) p k)
 
+-- no place goes over its limit by what a move brings: finish by what it gives, back by what it takes
+over_ok : (n : Net) (free : ℕ → ℕ) (t : ℕ) (more : ℕ → ℕ) → t < n.moves → ((p : ℕ) → p < n.places → free p + more p ≤ n.limit p) → (known n t else_by refuse_at (fault_at n OverLimit t) (over_place n free more)) ≡ Ok tt
+over_ok n free t more l h = ok_else (known n t) (refuse_at (fault_at n OverLimit t) (over_place n free more)) (known_ok n t l)
+    ∙ accepts_none (λ p. ltb (n.limit p) (free p + more p)) n.places (fault_at n OverLimit t) (λ p k. le-ltb (n.limit p) (free p + more p) (h p k))
+
 pub finish_ok : (n : Net) (free : ℕ → ℕ) (t : ℕ) → t < n.moves → ((p : ℕ) → p < n.places → free p + n.give p t ≤ n.limit p) → finish_answer n free t ≡ Ok tt
-finish_ok n free t l h = ok_else (known n t) (refuse_at (fault_at n OverLimit t) (over_place n free (λ p. n.give p t))) (known_ok n t l)
-    ∙ accepts_none (λ p. ltb (n.limit p) (free p + n.give p t)) n.places (fault_at n OverLimit t) (λ p k. le-ltb (n.limit p) (free p + n.give p t) (h p k))
+finish_ok n free t l h = over_ok n free t (λ p. n.give p t) l h
 
 pub back_ok : (n : Net) (free : ℕ → ℕ) (t : ℕ) → t < n.moves → ((p : ℕ) → p < n.places → free p + n.take p t ≤ n.limit p) → back_answer n free t ≡ Ok tt
-back_ok n free t l h = ok_else (known n t) (refuse_at (fault_at n OverLimit t) (over_place n free (λ p. n.take p t))) (known_ok n t l)
-    ∙ accepts_none (λ p. ltb (n.limit p) (free p + n.take p t)) n.places (fault_at n OverLimit t) (λ p k. le-ltb (n.limit p) (free p + n.take p t) (h p k))
+back_ok n free t l h = over_ok n free t (λ p. n.take p t) l h
+
+-- what a grant's first checks say
+pub checks_say : (n : Net) (g : ℕ → ℕ) (t : ℕ) → grant_checks n g t ≡ Ok tt → (t < n.moves) × (n.controllable t ≡ true) × (open_count n g < most_open)
+checks_say n g t e =
+    let k = else_ok (known n t) (refuse_unless (n.controllable t) (fault_of Uncontrollable t) else_by refuse_unless (ltb (open_count n g) most_open) (fault_of TooManyOpen t)) e in
+    let c = else_ok (refuse_unless (n.controllable t) (fault_of Uncontrollable t)) (refuse_unless (ltb (open_count n g) most_open) (fault_of TooManyOpen t)) k.1 in
+    (known_says n t k.0, refuse_unless_ok (n.controllable t) (fault_of Uncontrollable t) c.0, ltb-true (open_count n g) most_open (refuse_unless_ok (ltb (open_count n g) most_open) (fault_of TooManyOpen t) c.1))
 
 -- ---- the tokens after an accepted call
 pub begun_is : (n : Net) (free : ℕ → ℕ) (t : ℕ) → begin_answer n free t ≡ Ok tt → (p : ℕ) → begun n free t p ≡ free p - n.take p t

@@ -13,7 +13,7 @@ use Rattle.model.specs.Book.{Book, book_of, acceptances}
 use Rattle.model.specs.Promise.{Lets, MayAsk}
 use Rattle.model.specs.Laws.{Overfills, KeepsRules, HasRoom, GrantAccepted, GrantsExact, ReportAccepted, ReportsExact, BlankPlace, Ruled}
 use Rattle.model.proofs.Sums.{choice_most, wise, wise_le, wise_sum}
-use Rattle.model.proofs.Checks.{lowest_none, accepts_none, else_ok, ok_else, refuse_at_ok, refuse_unless_ok, known_ok, known_says, begin_is}
+use Rattle.model.proofs.Checks.{checks_say, lowest_none, accepts_none, else_ok, ok_else, refuse_at_ok, refuse_unless_ok, known_ok, known_says, begin_is}
 use Rattle.model.proofs.Steady.{Steady}
 use Rattle.model.proofs.Reading.{in_all, control_room, rule_keeps, rule_breaks, grant_is, may_ask}
 use Rattle.model.proofs.Running.{ready, by_book, room_says}
@@ -102,10 +102,8 @@ module _ (n : Net) (free g : ℕ → ℕ) (q : ℕ → ℤ) (rs : List InForce) 
   grant_only : (t : ℕ) → grant_answer n free g t ≡ Ok tt → MayAsk n b t × Lets n b t × KeepsRules n b t × HasRoom n b t
   grant_only t e =
       let e₁ = else_ok (grant_checks n g t) (begin_answer n free t else_by room_answer n free g t) e in
-      let e₂ = else_ok (known n t) (refuse_unless (n.controllable t) (fault_of Uncontrollable t) else_by refuse_unless (ltb (open_count n g) most_open) (fault_of TooManyOpen t)) e₁.0 in
-      let e₃ = else_ok (refuse_unless (n.controllable t) (fault_of Uncontrollable t)) (refuse_unless (ltb (open_count n g) most_open) (fault_of TooManyOpen t)) e₂.1 in
       let h = sym (grant_is n free g q rs s t e₁.0) ∙ e in (
-        (known_says n t e₂.0, refuse_unless_ok (n.controllable t) (fault_of Uncontrollable t) e₃.0, ltb-true (open_count n g) most_open (refuse_unless_ok (ltb (open_count n g) most_open) (fault_of TooManyOpen t) e₃.1)),
+        checks_say n g t e₁.0,
         lets_it t h,
         keeps_them t h,
         has_room t h,

@@ -10,6 +10,9 @@ use Rattle.model.specs.Layer.{Row, is_shut, own_place, next_layer, masked_take, 
 use Rattle.model.specs.Laws.{SameGround}
 use Rattle.model.proofs.Sums.{signed_sum_ext}
 
+pub same_refl : (n : Net) → SameGround n n
+same_refl n = record { same_ground = refl; same_moves = refl; same_controllable = λ t. refl; same_take = λ p t l. refl; same_give = λ p t l. refl }
+
 -- a test on a stretch of places
 pub stretch : (P : ℕ → Type 0) (a b i x y : ℕ) → (a ≤ i → i < b → P x) → ((i < a) ⊎ (b ≤ i) → P y) → P (cond (leb a i && ltb i b) x y)
 stretch P a b i x y f g = cond_both (leb a i && ltb i b) x y P
@@ -69,7 +72,7 @@ module _ (size : ℕ) (n : Net) (rows : ℕ → Row) where
   layer_same h = go (is_shut size n)
     where
       go : (b : Bool) → SameGround n (cond b n (open_net size n rows))
-      go true = record { same_ground = refl; same_moves = refl; same_controllable = λ t. refl; same_take = λ p t l. refl; same_give = λ p t l. refl }
+      go true = same_refl n
       go false = open_same h
 
   pub free_below : (free : ℕ → ℕ) (i : ℕ) → i < n.places → layer_free size n free rows i ≡ free i

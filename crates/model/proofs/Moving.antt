@@ -71,14 +71,11 @@ module _ (n : Net) (free g : ℕ → ℕ) (q : ℕ → ℤ) (rs : List InForce) 
     roomy = λ p l. omega (arith, e p, enough p l, sum_plus n.moves t g (λ u. max (n.take p u) (n.give p u)) known, room p l);
     few = omega (arith, not_full, count_plus n.moves t g known);
     beyond = beyond_plus n.moves t g known s.beyond;
-    marked = λ p l. s.marked p l ∙ ap pos (omega (arith, e p, enough p (in_all p l), sum_plus n.moves t g (λ u. n.take p u) known));
+    marked = λ p l. s.marked p l ∙ ap pos (omega (arith, e p, enough p (omega (arith, s.ranges.places_all)), sum_plus n.moves t g (λ u. n.take p u) known));
     rules = λ r m. rule r (s.rules r m);
     control = λ c l. blank_by n free free' rs c (λ b. omega (arith, e c, b.no_free)) (s.control c l);
   }
     where
-      in_all : (p : ℕ) → p < n.ground_places → p < n.places
-      in_all p l = omega (arith, s.ranges.places_all)
-
       rule : (r : InForce) → Stands n free g q r → Stands n free' (plus_one g t) q r
       rule r k = stands_by n free g free' (plus_one g t) q q r k
           (omega (arith, ints, k.adds_up, enough r.place k.high, e r.place, sum_plus n.moves t g (λ u. positive (raise n r.worked.weight u)) known, k.takes t))
@@ -129,14 +126,11 @@ module _ (n : Net) (free g : ℕ → ℕ) (q : ℕ → ℤ) (rs : List InForce) 
     roomy = λ p l. omega (arith, e p, enough p l, room p l);
     few = s.few;
     beyond = s.beyond;
-    marked = λ p l. omega (arith, ints, s.marked p l, e p, enough p (in_all p l));
+    marked = λ p l. omega (arith, ints, s.marked p l, e p, enough p (omega (arith, s.ranges.places_all)));
     rules = λ r m. rule r (s.rules r m);
     control = λ c l. blank_by n free free' rs c (λ b. omega (arith, e c, b.no_free, b.no_give t)) (s.control c l);
   }
     where
-      in_all : (p : ℕ) → p < n.ground_places → p < n.places
-      in_all p l = omega (arith, s.ranges.places_all)
-
       rule : (r : InForce) → Stands n free g q r → Stands n free' g (after n q t) r
       rule r k = stands_by n free g free' g q (after n q t) r k
           (omega (arith, ints, k.adds_up, after_weighted n r.worked.weight q t, raise_is (raise n r.worked.weight t), enough r.place k.high, e r.place, k.takes t, k.gives t))

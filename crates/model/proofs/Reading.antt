@@ -16,7 +16,7 @@ use Rattle.model.specs.Book.{Book}
 use Rattle.model.specs.Promise.{RefusedAt, MayAsk, Lets, Breaks, LowestBroken, Upheld}
 use Rattle.model.specs.Laws.{Derived, BlankPlace, Ruled}
 use Rattle.model.proofs.Sums.{sum_le, sum_below, le_sum, choice_most, wise, wise_le, wise_sum, scaled, unscale}
-use Rattle.model.proofs.Checks.{lowest_some, lowest_passes, else_ok, ok_else, passes_if, known_ok, known_says, begin_is, finish_ok, back_ok, names_cases, names_report}
+use Rattle.model.proofs.Checks.{checks_say, lowest_some, lowest_passes, else_ok, ok_else, passes_if, known_ok, known_says, begin_is, finish_ok, back_ok, names_cases, names_report}
 use Rattle.model.proofs.Setting.{most_weighted, weighted_abs}
 use Rattle.model.proofs.Steady.{held_open, Stands, stands_derived, Steady}
 
@@ -131,12 +131,9 @@ module _ (n : Net) (free g : ℕ → ℕ) (q : ℕ → ℤ) (rs : List InForce) 
   abbrev b : Book
   b = record { q = q; v = g; rules = rs }
 
-  pub checks_known : (t : ℕ) → grant_checks n g t ≡ Ok tt → t < n.moves
-  checks_known t e = known_says n t (else_ok (known n t) (refuse_unless (n.controllable t) (fault_of Uncontrollable t) else_by refuse_unless (ltb (open_count n g) most_open) (fault_of TooManyOpen t)) e).0
-
   pub grant_is : (t : ℕ) → grant_checks n g t ≡ Ok tt → grant_answer n free g t ≡ (refuse_at (fault_at n Short t) (short_place n free t) else_by refuse_at (fault_at n NoRoom t) (crowded_place n free g t))
   grant_is t e = ok_else (grant_checks n g t) (begin_answer n free t else_by room_answer n free g t) e
-      ∙ ap (λ a. a else_by room_answer n free g t) (begin_is n free t (checks_known t e))
+      ∙ ap (λ a. a else_by room_answer n free g t) (begin_is n free t (checks_say n g t e).0)
 
   pub may_ask : (t : ℕ) → MayAsk n b t → grant_checks n g t ≡ Ok tt
   may_ask t m = ok_else (known n t) (refuse_unless (n.controllable t) (fault_of Uncontrollable t) else_by refuse_unless (ltb (open_count n g) most_open) (fault_of TooManyOpen t)) (known_ok n t m.0)

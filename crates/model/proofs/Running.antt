@@ -14,21 +14,18 @@ use Rattle.model.specs.Book.{Book, new_book, entered, noted, book_from, book_of,
 use Rattle.model.specs.Promise.{Upheld, Promise}
 use Rattle.model.specs.Laws.{SameGround}
 use Rattle.model.proofs.Sums.{le_sum}
-use Rattle.model.proofs.Checks.{else_ok, refuse_unless_ok, refuse_at_ok, lowest_none, known_says, begin_says, finish_ok, begun_is, finished_is, gone_back_is}
+use Rattle.model.proofs.Checks.{checks_say, else_ok, refuse_unless_ok, refuse_at_ok, lowest_none, known_says, begin_says, finish_ok, begun_is, finished_is, gone_back_is}
 use Rattle.model.proofs.Working.{work_on_ground}
 use Rattle.model.proofs.Moving as moving
 use Rattle.model.proofs.Moving.{after}
 use Rattle.model.proofs.Setting.{set_net, set_same}
 use Rattle.model.proofs.Placing.{other_book}
-use Rattle.model.proofs.Layering.{layer_same}
+use Rattle.model.proofs.Layering.{same_refl, layer_same}
 use Rattle.model.proofs.LayerCalls.{layer_moves}
 use Rattle.model.proofs.TopRow.{net_set, set_low, set_steady, set_shape}
 use Rattle.model.proofs.Building.{Good, board_says, built_good}
 use Rattle.model.proofs.Reading.{upheld}
 use Rattle.model.proofs.Steady.{Steady, Shape}
-
-pub same_refl : (n : Net) → SameGround n n
-same_refl n = record { same_ground = refl; same_moves = refl; same_controllable = λ t. refl; same_take = λ p t l. refl; same_give = λ p t l. refl }
 
 same_trans : (n m k : Net) → SameGround n m → SameGround m k → SameGround n k
 same_trans n m k a b = record {
@@ -86,16 +83,15 @@ module _ (n : Net) (first : ℕ) (l : Ledger) (b : Book) (r : Ready n first l b)
   after_grant t e =
       let e₁ = else_ok (grant_checks m g t) (begin_answer m free t else_by room_answer m free g t) e in
       let e₂ = else_ok (begin_answer m free t) (room_answer m free g t) e₁.1 in
-      let e₃ = else_ok (known m t) (refuse_unless (m.controllable t) (fault_of Uncontrollable t) else_by refuse_unless (ltb (open_count m g) most_open) (fault_of TooManyOpen t)) e₁.0 in
-      let e₄ = else_ok (refuse_unless (m.controllable t) (fault_of Uncontrollable t)) (refuse_unless (ltb (open_count m g) most_open) (fault_of TooManyOpen t)) e₃.1 in
-      let k : t < m.moves = known_says m t e₃.0 in
+      let c = checks_say m g t e₁.0 in
+      let k : t < m.moves = c.0 in
       let tokens : pile_free (pile_begun l.pile t) ≡ begun m free t = sym ((layer_moves size l.pile.below l.pile.below_free l.pile.rows t).0 e₂.0) in
       record {
         same = r.same;
         firsts = r.firsts;
         counted = ap (λ f. plus_one f t) r.counted;
         steady = moving.granted m free g b.q b.rules r.steady t k (pile_free (pile_begun l.pile t)) (λ i. ap (λ f. f i) tokens ∙ begun_is m free t e₂.0 i) (begin_says m free t k e₂.0)
-            (ltb-true (open_count m g) most_open (refuse_unless_ok (ltb (open_count m g) most_open) (fault_of TooManyOpen t) e₄.1)) (room_says m free g t e₂.1);
+            c.2 (room_says m free g t e₂.1);
         shape = record { based = r.shape.based; there = r.shape.there; settled = r.shape.settled };
       }
 

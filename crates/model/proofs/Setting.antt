@@ -58,6 +58,13 @@ pub raise_none : (n : Net) (w : ℕ → ℤ) → Ranges n → (t : ℕ) → n.mo
 raise_none n w R t l = signed_sum_none n.ground_places (λ p. w p *ℤ incidence n p t)
     (λ p h. ap (λ d. w p *ℤ d) (no_incidence n R p t l) ∙ *ℤ-zero (w p))
 
+-- an uncontrollable move that does not raise a rule takes nothing for it
+pub untaken : (n : Net) (w : ℕ → ℤ) → Ranges n → ((t : ℕ) → t < n.moves → n.controllable t ≡ false → raise n w t ≤ℤ pos 0) → (t : ℕ) → n.controllable t ≡ false → positive (raise n w t) ≡ 0
+untaken n w R no_rise t e = elim (cases_lt t n.moves) [
+  | inl k ↦ positive_none (raise n w t) (no_rise t k e)
+  | inr k ↦ ap positive (raise_none n w R t k)
+]
+
 -- ---- the net and the tokens after the setting
 abbrev pub set_net : Net → ℕ → Worked → Net
 set_net n c w = record {
@@ -93,12 +100,6 @@ module _ (n : Net) (c : ℕ) (w : Worked) (low : n.ground_places ≤ c) where
 
   module _ (R : Ranges n) (high : c < n.places) (small : (p : ℕ) → p < n.ground_places → nat_abs (w.weight p) ≤ most_worked_weight)
       (no_rise : (t : ℕ) → t < n.moves → n.controllable t ≡ false → raise n w.weight t ≤ℤ pos 0) where
-    untaken : (t : ℕ) → n.controllable t ≡ false → positive (raise n w.weight t) ≡ 0
-    untaken t e = elim (cases_lt t n.moves) [
-      | inl k ↦ positive_none (raise n w.weight t) (no_rise t k e)
-      | inr k ↦ ap positive (raise_none n w.weight R t k)
-    ]
-
     arc_take : (t : ℕ) → positive (raise n w.weight t) ≤ most_control_arc
     arc_take t = le_trans (positive_le (raise n w.weight t)) (raise_abs n w.weight R small t)
 
@@ -118,7 +119,7 @@ module _ (n : Net) (c : ℕ) (w : Worked) (low : n.ground_places ≤ c) where
       ground_plain = R.ground_plain;
       control_arcs = λ p t l. grind (arith, nat_tests, R.control_arcs p t l, arc_take t, arc_give t);
       control_limited = R.control_limited;
-      control_free = λ p t l e. grind (arith, nat_tests, R.control_free p t l e, untaken t e);
+      control_free = λ p t l e. grind (arith, nat_tests, R.control_free p t l e, untaken n w.weight R no_rise t e);
       no_place = λ p t l. grind (arith, nat_tests, R.no_place p t l);
       no_move = λ p t l. grind (arith, nat_tests, R.no_move p t l, ap positive (raise_none n w.weight R t l), ap negative (raise_none n w.weight R t l));
     }

@@ -17,7 +17,7 @@ use Rattle.model.specs.Layer.{Row, is_shut, masked_take, masked_give, ruled_row,
 use Rattle.model.specs.Laws.{SameGround}
 use Rattle.model.proofs.Checks.{else_ok, refuse_unless_ok}
 use Rattle.model.proofs.Working.{same_raise, work_on_ground, work_quiets}
-use Rattle.model.proofs.Setting.{raise_none, positive_none, set_net, set_free}
+use Rattle.model.proofs.Setting.{raise_none, untaken, set_net, set_free}
 use Rattle.model.proofs.Placing.{placed}
 use Rattle.model.proofs.Layering.{open_net, net_opens, free_opens, layer_same, layer_weighted, changed_row}
 use Rattle.model.proofs.Steady.{Steady, Shape}
@@ -100,22 +100,10 @@ module _ (p : Pile) (R : Ranges p.below) (r : ℕ) (here : r < row_count p.top) 
 
   -- the mask leaves the arcs of a worked rule as they are
   take_unmasked : (t : ℕ) → masked_take n new t ≡ positive (raise (pile_net p) w.weight t)
-  take_unmasked t = go (n.controllable t) refl ∙ ap positive (sym (raises t))
-    where
-      none : (b : Bool) → ltb t n.moves ≡ b → n.controllable t ≡ false → 0 ≡ positive (raise n w.weight t)
-      none true k e = sym (positive_none (raise n w.weight t) (work_quiets n typed w is t (ltb-true t n.moves k) e))
-      none false k e = sym (ap positive (raise_none n w.weight R t (ltb-false t n.moves k)))
-
-      go : (b : Bool) → n.controllable t ≡ b → cond b (new.take t) 0 ≡ positive (raise n w.weight t)
-      go true e = refl
-      go false e = none (ltb t n.moves) refl e
+  take_unmasked t = cond_both (n.controllable t) (new.take t) 0 (λ x. x ≡ positive (raise n w.weight t)) (λ e. refl) (λ e. sym (untaken n w.weight R (work_quiets n typed w is) t e)) ∙ ap positive (sym (raises t))
 
   give_unmasked : (t : ℕ) → masked_give n new t ≡ negative (raise (pile_net p) w.weight t)
-  give_unmasked t = go (ltb t n.moves) refl ∙ ap negative (sym (raises t))
-    where
-      go : (b : Bool) → ltb t n.moves ≡ b → cond b (new.give t) 0 ≡ negative (raise n w.weight t)
-      go true e = refl
-      go false e = sym (ap negative (raise_none n w.weight R t (ltb-false t n.moves e)))
+  give_unmasked t = cond_both (ltb t n.moves) (new.give t) 0 (λ x. x ≡ negative (raise n w.weight t)) (λ e. refl) (λ e. sym (ap negative (raise_none n w.weight R t (ltb-false t n.moves e)))) ∙ ap negative (sym (raises t))
 
   -- ---- a setting is a change of one place
   abbrev with_arcs : (ℕ → ℕ → ℕ) → (ℕ → ℕ → ℕ) → Net
