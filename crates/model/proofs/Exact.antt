@@ -2,13 +2,12 @@
 use Rattle.std.proofs.Common.{◌≡◌, ℕ, zero, suc, ◌+◌, ◌*◌, ◌<◌, ◌≤◌, max, Bool, true, false, not, ltb, ◌⊎◌, List, ℤ, pos, ◌-ℤ◌, Ok, sym, refl, ap, ◌∙◌, subst, inl, inr, arith, ltb-false, ltb-true, le-ltb}
 use Rattle.std.proofs.lemmas.Bool.{cases_lt, false_from_ne_true, not-true}
 use borrow.Author.Differences.{ints}
-use Rattle.model.specs.declared.refusal.Refusal.TheVariants.{Uncontrollable, Controllable, TooManyOpen, Short, NoRoom}
-use Rattle.model.specs.Sizes.{most_open}
+use Rattle.model.specs.declared.refusal.Refusal.TheVariants.{Controllable, Short, NoRoom}
 use Rattle.model.specs.Net.{Net, sum, incidence}
 use Rattle.model.specs.Plant.{fault_of, fault_at, refuse_at, refuse_unless, ◌else_by◌, known, short_place, begin_answer}
 use Rattle.model.specs.Rule.{positive}
 use Rattle.model.specs.Layer.{InForce, pile_net}
-use Rattle.model.specs.Ledger.{open_count, reserved, crowded, crowded_place, room_answer, grant_checks, grant_answer, report_answer, net_under, free_under, new_ledger, run, answers}
+use Rattle.model.specs.Ledger.{reserved, crowded, crowded_place, room_answer, grant_checks, grant_answer, report_answer, net_under, free_under, new_ledger, run, answers}
 use Rattle.model.specs.Book.{Book, book_of, acceptances}
 use Rattle.model.specs.Promise.{Lets, MayAsk}
 use Rattle.model.specs.Laws.{Overfills, KeepsRules, HasRoom, GrantAccepted, GrantsExact, ReportAccepted, ReportsExact, BlankPlace, Ruled}

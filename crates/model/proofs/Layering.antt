@@ -1,9 +1,9 @@
 -- The net and the tokens of a layer: the ground part is as below, the ranges are kept, and a row that is set changes one place.
-use Rattle.std.proofs.Common.{◌≡◌, ℕ, ◌+◌, ◌-◌, ◌<◌, ◌≤◌, Bool, true, false, cond, not, ◌&&◌, eqb, ltb, leb, ◌⊎◌, ℤ, pos, ◌*ℤ◌, refl, ap, ◌∙◌, inl, inr, zero-le, le_trans, arith, ltb-false, ltb-true, le-ltb, leb-false, leb-true}
+use Rattle.std.proofs.Common.{◌≡◌, ℕ, ◌+◌, ◌-◌, ◌<◌, ◌≤◌, Bool, true, false, cond, not, ◌&&◌, eqb, ltb, leb, ◌⊎◌, ℤ, pos, ◌*ℤ◌, refl, ap, ◌∙◌, inl, inr, zero-le, le_trans, arith, ltb-false, ltb-true, leb-false, leb-true}
 use mathlib.Core.Path.{fun_ext}
-use Rattle.std.proofs.lemmas.Bool.{and_parts, and_cases, or_parts, cond_both, cond-false}
+use Rattle.std.proofs.lemmas.Bool.{and_parts, and_cases, or_parts, cond_both}
 use Rattle.std.proofs.lemmas.Bool.Decides.{nat_tests}
-use Rattle.model.specs.Sizes.{most_arc, most_limit, most_control_arc, control_limit, most_all_places}
+use Rattle.model.specs.Sizes.{most_control_arc, control_limit, most_all_places}
 use Rattle.model.specs.Net.{Net, Ranges, signed_sum}
 use Rattle.model.specs.Rule.{weighted_free}
 use Rattle.model.specs.Layer.{Row, is_shut, own_place, next_layer, masked_take, masked_give, layer_net, layer_free, change_row}

@@ -16,7 +16,7 @@ use Rattle.model.specs.Book.{Book}
 use Rattle.model.specs.Promise.{RefusedAt, MayAsk, Lets, Breaks, LowestBroken, Upheld}
 use Rattle.model.specs.Laws.{Derived, BlankPlace, Ruled}
 use Rattle.model.proofs.Sums.{sum_le, sum_below, le_sum, choice_most, wise, wise_le, wise_sum, scaled, unscale}
-use Rattle.model.proofs.Checks.{checks_say, lowest_some, lowest_passes, else_ok, ok_else, passes_if, known_ok, known_says, begin_is, finish_ok, back_ok, names_cases, names_report}
+use Rattle.model.proofs.Checks.{checks_say, lowest_some, lowest_passes, ok_else, passes_if, known_ok, begin_is, finish_ok, back_ok, names_cases, names_report}
 use Rattle.model.proofs.Setting.{most_weighted, weighted_abs}
 use Rattle.model.proofs.Steady.{held_open, Stands, stands_derived, Steady}
 

@@ -1,9 +1,8 @@
 -- Every list of calls keeps the invariant: the promise.
 use Rattle.std.proofs.Common.{inl, inr, ◌≡◌, ℕ, ◌+◌, ◌-◌, ◌<◌, ◌≤◌, max, cond, not, eqb, ltb, List, [], ◌∷◌, pos, ◌+ℤ◌, ◌-ℤ◌, Ok, Err, Result, sym, refl, ap, ◌∙◌, subst, arith, ltb-false, ltb-true, eqb-true}
 use Rattle.std.proofs.lemmas.Bool.{cases_lt}
-use Rattle.model.specs.declared.refusal.Refusal.TheVariants.{Uncontrollable, Controllable, TooManyOpen, NoRoom, NotOpen, GrantsOpen}
+use Rattle.model.specs.declared.refusal.Refusal.TheVariants.{Controllable, NoRoom, NotOpen, GrantsOpen}
 use Rattle.model.specs.declared.fault.Fault.{Fault}
-use Rattle.model.specs.Sizes.{most_open}
 use Rattle.model.specs.Net.{Net, incidence}
 use Rattle.model.specs.Plant.{Answer, accepted, fault_of, fault_at, setting_fault, refuse_unless, ◌else_by◌, known, begin_answer, begun, finish_answer, finished, back_answer, gone_back}
 use Rattle.model.specs.Rule.{Rule, Worked}

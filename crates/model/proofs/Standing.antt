@@ -5,7 +5,7 @@ use Rattle.model.specs.declared.refusal.Refusal.TheVariants.{Controllable}
 use Rattle.model.specs.Plant.{Answer, accepted, fault_of, refuse_unless, ◌else_by◌, known, begin_answer, begun, finish_answer}
 use Rattle.model.specs.Rule.{raise, weighted_free}
 use Rattle.model.specs.Ledger.{answer, new_ledger, net_under, free_under, room_answer, done, run}
-use Rattle.model.specs.Laws.{AllStanding, RefusedStill, AnswersAll, ReportIs, WorkedImplies, WorkDerives, WorkQuiets, WorkOnGround, Derived}
+use Rattle.model.specs.Laws.{AllStanding, RefusedStill, AnswersAll, ReportIs, WorkedImplies, Derived}
 use Rattle.model.proofs.Sums.{scaled, unscale}
 use Rattle.model.proofs.Checks.{known_says}
 pub use Rattle.model.proofs.Working.{work_derives, work_quiets, work_on_ground}

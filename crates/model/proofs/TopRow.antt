@@ -1,5 +1,5 @@
 -- A row of the top layer that is set: what its acceptance says, and that the pile keeps the invariant.
-use Rattle.std.proofs.Common.{◌≡◌, ℕ, ◌+◌, ◌<◌, ◌≤◌, Bool, true, false, cond, not, eqb, ltb, ◌⊎◌, List, ◌∷◌, ℤ, ◌-ℤ◌, ◌≤ℤ◌, Ok, Result, sym, refl, ap, ◌∙◌, subst, ap₂, inl, inr, arith, ltb-false, ltb-true, eq-eqb}
+use Rattle.std.proofs.Common.{◌≡◌, ℕ, ◌+◌, ◌<◌, ◌≤◌, true, false, cond, not, eqb, ltb, ◌⊎◌, List, ◌∷◌, ℤ, ◌-ℤ◌, ◌≤ℤ◌, Ok, Result, sym, refl, ap, ◌∙◌, subst, ap₂, inl, inr, arith, ltb-false, eq-eqb}
 use mathlib.Core.Path.{fun_ext}
 use mathlib.Core.List.Memᴰ
 use mathlib.Core.List.{Memᴰ}
