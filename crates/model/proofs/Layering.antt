@@ -1,5 +1,5 @@
 -- The net and the tokens of a layer: the ground part is as below, the ranges are kept, and a row that is set changes one place.
-use Rattle.std.proofs.Common.{◌≡◌, ℕ, ◌+◌, ◌-◌, ◌<◌, ◌≤◌, Bool, true, false, cond, not, ◌&&◌, eqb, ltb, leb, ◌⊎◌, ℤ, pos, ◌*ℤ◌, refl, ap, ◌∙◌, inl, inr, zero-le, le_trans, arith, ltb-false, ltb-true, leb-false, leb-true}
+use Rattle.std.proofs.Common.{◌≡◌, ℕ, ◌+◌, ◌-◌, ◌<◌, ◌≤◌, Bool, true, false, cond, not, ◌&&◌, eqb, ltb, leb, ◌⊎◌, ℤ, pos, ◌*ℤ◌, refl, ap, ◌∙◌, inl, inr, le_trans, arith, ltb-false, ltb-true, leb-false, leb-true}
 use mathlib.Core.Path.{fun_ext}
 use Rattle.std.proofs.lemmas.Bool.{and_parts, and_cases, or_parts, cond_both}
 use Rattle.std.proofs.lemmas.Bool.Decides.{nat_tests}
@@ -88,12 +88,6 @@ module _ (size : ℕ) (n : Net) (rows : ℕ → Row) where
 
   -- ---- the ranges, whatever the rows hold, if only their arcs are small
   module _ (R : Ranges n) (small : (r t : ℕ) → r < size → ((rows r).take t ≤ most_control_arc) × ((rows r).give t ≤ most_control_arc)) where
-    row_low : (p : ℕ) → n.places ≤ p → p < n.places + size → p - n.places < size
-    row_low p a b = omega arith
-
-    masked : (b : Bool) (x : ℕ) → x ≤ most_control_arc → cond b x 0 ≤ most_control_arc
-    masked b x h = cond_both b x 0 (λ y. y ≤ most_control_arc) (λ e. h) (λ e. zero-le)
-
     pub open_ranges : n.places + size ≤ most_all_places → Ranges (open_net size n rows)
     open_ranges few = record {
       ground_some = R.ground_some;
