@@ -6,6 +6,7 @@ use Rattle.std.proofs.lemmas.Bool.{cond-true, cond-false, eqb-true, not_from_tru
 use Rattle.model.specs.declared.refusal.Refusal.TheVariants.{Byte}
 use Rattle.formats.specs.Words.{is_not, onto, fields, lines, last, is_allowed}
 use Rattle.formats.specs.Texts.{fault, bad_byte, Reader, first_failed, ended, unless, read_lines}
+use Rattle.formats.proofs.Pieces.{cut_at, uncut}
 use Rattle.formats.specs.Sums.{piece, is_sign, put, pieces}
 
 -- ---- the last byte
@@ -13,24 +14,12 @@ pub last_is : (bs : List ℕ) → 0 < length bs → last bs ≡ get_or bs (lengt
 last_is [] h = absurd (omega arith)
 last_is (b ∷ []) h = refl
 last_is (b ∷ c ∷ bs) h =
-    last_is (c ∷ bs) (omega arith) ∙ ap (λ (k : ℕ). get_or (c ∷ bs) k 0) (omega arith) ∙ ap (λ (k : ℕ). get_or (b ∷ c ∷ bs) k 0) (sym (two (length bs)))
-  where
-    two : (n : ℕ) → suc (suc n) - 1 ≡ suc n
-    two n = omega arith
+    let e : suc (suc (length bs)) - 1 ≡ suc (suc (length bs) - 1) = omega arith in
+    last_is (c ∷ bs) (omega arith) ∙ ap (λ (k : ℕ). get_or (b ∷ c ∷ bs) k 0) (sym e)
 
 -- ---- lines
 pub lines_cut : (t : List ℕ) → prefix_len (is_not 10) t < length t → lines t ≡ take (prefix_len (is_not 10) t) t ∷ lines (drop (prefix_len (is_not 10) t + 1) t)
-lines_cut [] h = absurd (omega arith)
-lines_cut (b ∷ bs) h = go (eqb b 10) h (λ k. lines_cut bs k)
-  where
-    go : (t : Bool) → cond (not t) (1 + prefix_len (is_not 10) bs) 0 < suc (length bs) → (prefix_len (is_not 10) bs < length bs → lines bs ≡ take (prefix_len (is_not 10) bs) bs ∷ lines (drop (prefix_len (is_not 10) bs + 1) bs))
-        → cond t ([] ∷ lines bs) (onto b (lines bs)) ≡ take (cond (not t) (1 + prefix_len (is_not 10) bs) 0) (b ∷ bs) ∷ lines (drop (cond (not t) (1 + prefix_len (is_not 10) bs) 0 + 1) (b ∷ bs))
-    go true k r = refl
-    go false k r =
-        let l = prefix_len (is_not 10) bs in
-        let one : 1 + l ≡ suc l = omega arith in
-        let two : suc l + 1 ≡ suc (l + 1) = omega arith in
-        ap (onto b) (r (omega arith)) ∙ ap₂ (λ (i j : ℕ). take i (b ∷ bs) ∷ lines (drop j (b ∷ bs))) (sym one) (sym (ap (λ (n : ℕ). n + 1) one ∙ two))
+lines_cut t h = cut_at (λ b. eqb b 10) (λ l. l) onto (λ b l ys. refl) lines (λ b bs. lines bs) (λ b bs. refl) t h
 
 -- from the byte s on, where e is the end of the line
 pub lines_at : (t : List ℕ) (s e : ℕ) → e ≡ s + prefix_len (is_not 10) (drop s t) → e < length t → lines (drop s t) ≡ take (e - s) (drop s t) ∷ lines (drop (e + 1) t)
@@ -56,25 +45,10 @@ read_end R v k t s h = ap (λ (z : List (List ℕ)). read_lines R v k s z) (line
 
 -- ---- fields
 pub fields_cut : (t : List ℕ) → prefix_len (is_not 9) t < length t → fields t ≡ take (prefix_len (is_not 9) t) t ∷ fields (drop (prefix_len (is_not 9) t + 1) t)
-fields_cut [] h = absurd (omega arith)
-fields_cut (b ∷ bs) h = go (eqb b 9) h (λ k. fields_cut bs k)
-  where
-    go : (t : Bool) → cond (not t) (1 + prefix_len (is_not 9) bs) 0 < suc (length bs) → (prefix_len (is_not 9) bs < length bs → fields bs ≡ take (prefix_len (is_not 9) bs) bs ∷ fields (drop (prefix_len (is_not 9) bs + 1) bs))
-        → cond t ([] ∷ fields bs) (onto b (fields bs)) ≡ take (cond (not t) (1 + prefix_len (is_not 9) bs) 0) (b ∷ bs) ∷ fields (drop (cond (not t) (1 + prefix_len (is_not 9) bs) 0 + 1) (b ∷ bs))
-    go true k r = refl
-    go false k r =
-        let l = prefix_len (is_not 9) bs in
-        let one : 1 + l ≡ suc l = omega arith in
-        let two : suc l + 1 ≡ suc (l + 1) = omega arith in
-        ap (onto b) (r (omega arith)) ∙ ap₂ (λ (i j : ℕ). take i (b ∷ bs) ∷ fields (drop j (b ∷ bs))) (sym one) (sym (ap (λ (n : ℕ). n + 1) one ∙ two))
+fields_cut t h = cut_at (λ b. eqb b 9) (λ l. l) onto (λ b l ys. refl) fields (λ b bs. fields bs) (λ b bs. refl) t h
 
 pub fields_last : (t : List ℕ) → prefix_len (is_not 9) t ≡ length t → fields t ≡ t ∷ []
-fields_last [] e = refl
-fields_last (b ∷ bs) e = go (eqb b 9) e (λ k. fields_last bs k)
-  where
-    go : (t : Bool) → cond (not t) (1 + prefix_len (is_not 9) bs) 0 ≡ suc (length bs) → (prefix_len (is_not 9) bs ≡ length bs → fields bs ≡ bs ∷ []) → cond t ([] ∷ fields bs) (onto b (fields bs)) ≡ (b ∷ bs) ∷ []
-    go true k r = absurd (omega arith)
-    go false k r = ap (onto b) (r (omega arith))
+fields_last t e = uncut (λ b. eqb b 9) (λ l. l) onto (λ b l ys. refl) fields (λ b bs. fields bs) (λ b bs. refl) refl t e
 
 -- ---- bytes
 pub bytes_at : (k i : ℕ) (t : List ℕ) → i < length t
@@ -89,27 +63,10 @@ abbrev pub noSign : ℕ → Bool
 noSign c = not (is_sign c)
 
 pub pieces_cut : (m : Bool) (t : List ℕ) → prefix_len noSign t < length t → pieces m t ≡ piece m (take (prefix_len noSign t) t) ∷ pieces (eqb (get_or t (prefix_len noSign t) 0) 45) (drop (prefix_len noSign t + 1) t)
-pieces_cut m [] h = absurd (omega arith)
-pieces_cut m (b ∷ bs) h = go (is_sign b) h (λ k. pieces_cut m bs k)
-  where
-    go : (t : Bool) → cond (not t) (1 + prefix_len noSign bs) 0 < suc (length bs)
-        → (prefix_len noSign bs < length bs → pieces m bs ≡ piece m (take (prefix_len noSign bs) bs) ∷ pieces (eqb (get_or bs (prefix_len noSign bs) 0) 45) (drop (prefix_len noSign bs + 1) bs))
-        → cond t (piece m [] ∷ pieces (eqb b 45) bs) (put b (pieces m bs))
-        ≡ piece m (take (cond (not t) (1 + prefix_len noSign bs) 0) (b ∷ bs)) ∷ pieces (eqb (get_or (b ∷ bs) (cond (not t) (1 + prefix_len noSign bs) 0) 0) 45) (drop (cond (not t) (1 + prefix_len noSign bs) 0 + 1) (b ∷ bs))
-    go true k r = refl
-    go false k r =
-        let l = prefix_len noSign bs in
-        let one : 1 + l ≡ suc l = omega arith in
-        let two : suc l + 1 ≡ suc (l + 1) = omega arith in
-        ap (put b) (r (omega arith)) ∙ ap₂ (λ (i j : ℕ). piece m (take i (b ∷ bs)) ∷ pieces (eqb (get_or (b ∷ bs) i 0) 45) (drop j (b ∷ bs))) (sym one) (sym (ap (λ (n : ℕ). n + 1) one ∙ two))
+pieces_cut m t h = cut_at is_sign (piece m) put (λ b l ys. refl) (pieces m) (λ b bs. pieces (eqb b 45) bs) (λ b bs. refl) t h
 
 pub pieces_last : (m : Bool) (t : List ℕ) → prefix_len noSign t ≡ length t → pieces m t ≡ piece m t ∷ []
-pieces_last m [] e = refl
-pieces_last m (b ∷ bs) e = go (is_sign b) e (λ k. pieces_last m bs k)
-  where
-    go : (t : Bool) → cond (not t) (1 + prefix_len noSign bs) 0 ≡ suc (length bs) → (prefix_len noSign bs ≡ length bs → pieces m bs ≡ piece m bs ∷ []) → cond t (piece m [] ∷ pieces (eqb b 45) bs) (put b (pieces m bs)) ≡ piece m (b ∷ bs) ∷ []
-    go true k r = absurd (omega arith)
-    go false k r = ap (put b) (r (omega arith))
+pieces_last m t e = uncut is_sign (piece m) put (λ b l ys. refl) (pieces m) (λ b bs. pieces (eqb b 45) bs) (λ b bs. refl) refl t e
 
 -- a run of bytes that are no signs ends inside the piece: a loop need not know where the piece ends
 pub run_within : (p q : ℕ → Bool) → ((c : ℕ) → p c ≡ true → q c ≡ true) → (t : List ℕ) → prefix_len p (take (prefix_len q t) t) ≡ prefix_len p t

@@ -9,9 +9,12 @@ use Rattle.formats.specs.Words.{IsName, Apart, New}
 use Rattle.formats.specs.NetText.{Place, Move, Arc, NetText, net, names, place_names, move_names, plant_row, place_row, move_row, arc_row, rows, Filled, Joins, SamePair, Right}
 
 -- ---- one more element
+pub all_split : {A : Type 0} (P : A → Type 0) (xs ys : List A) → AllByRecursion P (xs ++ ys) → AllByRecursion P xs × AllByRecursion P ys
+all_split P [] ys h = (tt, h)
+all_split P (x ∷ xs) ys h = let r = all_split P xs ys h.1 in ((h.0, r.0), r.1)
+
 pub all_pop : {A : Type 0} (P : A → Type 0) (xs : List A) (y : A) → AllByRecursion P (xs ++ (y ∷ [])) → AllByRecursion P xs × P y
-all_pop P [] y h = (tt, h.0)
-all_pop P (x ∷ xs) y h = let r = all_pop P xs y h.1 in ((h.0, r.0), r.1)
+all_pop P xs y h = let s = all_split P xs (y ∷ []) h in (s.0, s.1.0)
 
 pub apart_push : {A : Type 0} (R : A → A → Type 0) (xs : List A) (y : A) → Apart R xs → New R xs y → Apart R (xs ++ (y ∷ []))
 apart_push R [] y h n = (tt, tt)
@@ -24,13 +27,12 @@ apart_pop R (x ∷ xs) y h =
     let r = apart_pop R xs y h.1 in
     ((a.0, r.0), (a.1, r.1))
 
-pub all_split : {A : Type 0} (P : A → Type 0) (xs ys : List A) → AllByRecursion P (xs ++ ys) → AllByRecursion P xs × AllByRecursion P ys
-all_split P [] ys h = (tt, h)
-all_split P (x ∷ xs) ys h = let r = all_split P xs ys h.1 in ((h.0, r.0), r.1)
-
 pub apart_split : {A : Type 0} (R : A → A → Type 0) (xs ys : List A) → Apart R (xs ++ ys) → Apart R xs × Apart R ys
 apart_split R [] ys h = (tt, h)
 apart_split R (x ∷ xs) ys h = let r = apart_split R xs ys h.1 in (((all_split (λ y. R x y → ⊥) xs ys h.0).0, r.0), r.1)
+
+pub one_more : (rs qs : List (List (List ℕ))) (a b : List (List ℕ)) → qs ≡ rs ++ (a ∷ []) → a ≡ b → qs ≡ rs ++ (b ∷ [])
+one_more rs qs a b e q = e ∙ ap (λ (z : List (List ℕ)). rs ++ (z ∷ [])) q
 
 -- ---- names
 place_names_push : (ps : List Place) (p : Place) → map (λ (q : Place). q.name) (ps ++ (p ∷ [])) ++ [] ≡ (map (λ (q : Place). q.name) ps ++ []) ++ (p.name ∷ [])

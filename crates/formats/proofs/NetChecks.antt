@@ -1,8 +1,9 @@
 -- The reader's checks and the clauses say the same, row by row.
-use Rattle.std.proofs.Common.{◌≡◌, ℕ, ◌+◌, ◌^◌, ◌≤◌, false, not, ◌&&◌, ◌||◌, eqb, ◌⊎◌, List, length, Some, None, codes, Decides, Option, refl, ap, inl, inr, arith}
+use Rattle.std.proofs.Common.{◌≡◌, ℕ, ◌+◌, ◌^◌, ◌≤◌, not, ◌&&◌, ◌||◌, eqb, ◌⊎◌, List, length, Some, None, codes, Decides, Option, refl, ap, inl, inr, arith}
 use Rattle.std.specs.Str.{bytes_eq}
 use Rattle.std.proofs.lemmas.Slice.Eq.{bytes_eq-Decides}
 use Rattle.std.proofs.lemmas.Bool.{false≢true}
+use Rattle.std.proofs.lemmas.Bool.Decides.{Decides-and, Decides-eqb, Decides-like, Decides-ltb, Decides-not, Decides-or}
 use Rattle.formats.specs.declared.kind.Kind.{Kind}
 use Rattle.formats.specs.declared.kind.Kind.TheVariants.{Net, Bank, Line}
 use Rattle.formats.specs.Words.{none, value, index_of}
@@ -11,7 +12,7 @@ use Rattle.formats.specs.NetClauses.{Shape, NewPair, place_clauses, move_clauses
 use Rattle.formats.specs.NetClauses.Shape.{a_plant, a_place, a_move, an_arc, no_record}
 use Rattle.formats.specs.ReadNet.{checks, place_checks, move_checks, arc_checks, is_kind, is_net, is_new_pair, is_shaped, is_whole}
 use Rattle.formats.proofs.Ordered.{Agree}
-use Rattle.formats.proofs.Tests.{d_same, d_and, d_or, d_not, d_leb, d_ltb, d_eqb, d_all, d_no, d_name, d_new, d_known, d_numeral, d_none}
+use Rattle.formats.proofs.Tests.{d_leb, d_all, refused, d_name, d_new, d_known, d_numeral, d_none}
 
 -- ---- the tests of the tables
 kind_from : (f : List ℕ) → (f ≡ codes "net") ⊎ ((f ≡ codes "bank") ⊎ (f ≡ codes "line")) → (k : Kind) × (f ≡ kind_word k)
@@ -26,10 +27,9 @@ kind_to f Line e = inr (inr e)
 
 d_kind : (f : List ℕ) → Decides (is_kind f) ((k : Kind) × (f ≡ kind_word k))
 d_kind f =
-    d_same (is_kind f)
-    (d_or (bytes_eq f (codes "net")) (bytes_eq f (codes "bank") || bytes_eq f (codes "line")) (bytes_eq-Decides f (codes "net"))
-    (d_or (bytes_eq f (codes "bank")) (bytes_eq f (codes "line")) (bytes_eq-Decides f (codes "bank")) (bytes_eq-Decides f (codes "line"))))
-    (kind_from f) (λ h. kind_to f h.0 h.1)
+    Decides-like (is_kind f) (kind_from f) (λ h. kind_to f h.0 h.1)
+    (Decides-or (bytes_eq f (codes "net")) (bytes_eq f (codes "bank") || bytes_eq f (codes "line")) (bytes_eq-Decides f (codes "net"))
+    (Decides-or (bytes_eq f (codes "bank")) (bytes_eq f (codes "line")) (bytes_eq-Decides f (codes "bank")) (bytes_eq-Decides f (codes "line"))))
 
 abbrev kind_number : Kind → ℕ
 kind_number Net = 0
@@ -44,7 +44,7 @@ d_net Line = (λ e. absurd (false≢true e), λ e. absurd (omega (arith, ap kind
 d_pair : (xs : List Arc) (p m : ℕ) → Decides (is_new_pair xs p m) (NewPair xs p m)
 d_pair xs p m =
     d_all (λ (a : Arc). not (eqb a.place p && eqb a.move m)) (λ (a : Arc). (a.place ≡ p) × (a.move ≡ m) → ⊥)
-    (λ (a : Arc). d_not (eqb a.place p && eqb a.move m) (d_and (eqb a.place p) (eqb a.move m) (d_eqb a.place p) (d_eqb a.move m))) xs
+    (λ (a : Arc). Decides-not (eqb a.place p && eqb a.move m) (Decides-and (eqb a.place p) (eqb a.move m) (Decides-eqb a.place p) (Decides-eqb a.move m))) xs
 
 three : 10 ^ 3 ≤ 2 ^ 64
 three = omega arith
@@ -52,11 +52,11 @@ three = omega arith
 -- ---- the tables
 place_agree : (x : NetText) (at : ℕ) (n t l : List ℕ) → Agree (place_checks x at n t l) (place_clauses x at n t l)
 place_agree x at n t l = (
-  d_and (none x.moves) (none x.arcs) (d_none x.moves) (d_none x.arcs),
+  Decides-and (none x.moves) (none x.arcs) (d_none x.moves) (d_none x.arcs),
   refl,
   refl,
   (
-    d_ltb (length x.places) 32,
+    Decides-ltb (length x.places) 32,
     refl,
     refl,
     (
@@ -94,7 +94,7 @@ move_agree x at n k = (
   refl,
   refl,
   (
-    d_ltb (length x.moves) 32,
+    Decides-ltb (length x.moves) 32,
     refl,
     refl,
     (
@@ -105,7 +105,7 @@ move_agree x at n k = (
         d_new (names x) n,
         refl,
         refl,
-        (d_or (bytes_eq k (codes "c")) (bytes_eq k (codes "u")) (bytes_eq-Decides k (codes "c")) (bytes_eq-Decides k (codes "u")), refl, refl, tt),
+        (Decides-or (bytes_eq k (codes "c")) (bytes_eq k (codes "u")) (bytes_eq-Decides k (codes "c")) (bytes_eq-Decides k (codes "u")), refl, refl, tt),
       ),
     ),
   ),
@@ -156,9 +156,6 @@ arc_agree x at p m t g =
       ),
     )
 
-refused : Decides false ⊥
-refused = d_no false refl
-
 pub agree : (s : Option NetText) (at : ℕ) (l : Shape) → Agree (checks s at l) (clauses s at l)
 agree None at (a_plant k) = (d_kind k, refl, refl, tt)
 agree None at (a_place n t l) = (refused, refl, refl, tt)
@@ -175,13 +172,11 @@ agree (Some x) at no_record = (refused, refl, refl, tt)
 d_shaped : (k : Kind) (ps : List Place) (ms : List Move) → Decides (is_shaped k ps ms) (Shaped k ps ms)
 d_shaped Net ps ms = (λ e. tt, λ h. refl)
 d_shaped Bank ps ms =
-    d_same (is_shaped Bank ps ms)
-    (d_and _ _ (d_eqb _ 0) (d_and _ _ (d_eqb (length ms) (length ps)) (d_all (λ (p : Place). eqb p.limit 1) (λ (p : Place). p.limit ≡ 1) (λ (p : Place). d_eqb p.limit 1) ps)))
-    (λ h. (h.0, h.1.0, h.1.1)) (λ h. (h.0, (h.1, h.2)))
-d_shaped Line ps ms = d_eqb (length ms) (length ps + 1)
+    Decides-like (is_shaped Bank ps ms) (λ h. (h.0, h.1.0, h.1.1)) (λ h. (h.0, (h.1, h.2)))
+    (Decides-and _ _ (Decides-eqb _ 0) (Decides-and _ _ (Decides-eqb (length ms) (length ps)) (d_all (λ (p : Place). eqb p.limit 1) (λ (p : Place). p.limit ≡ 1) (λ (p : Place). Decides-eqb p.limit 1) ps)))
+d_shaped Line ps ms = Decides-eqb (length ms) (length ps + 1)
 
 pub d_whole : (x : NetText) → Decides (is_whole x) (Complete x)
 d_whole x =
-    d_same (is_whole x)
-    (d_and _ _ (d_leb 1 (length x.places)) (d_and _ _ (d_leb 1 (length x.moves)) (d_shaped x.kind x.places x.moves)))
-    (λ h. (h.0, h.1.0, h.1.1)) (λ h. (h.0, (h.1, h.2)))
+    Decides-like (is_whole x) (λ h. (h.0, h.1.0, h.1.1)) (λ h. (h.0, (h.1, h.2)))
+    (Decides-and _ _ (d_leb 1 (length x.places)) (Decides-and _ _ (d_leb 1 (length x.moves)) (d_shaped x.kind x.places x.moves)))

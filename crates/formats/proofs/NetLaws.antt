@@ -1,12 +1,12 @@
 -- The text that is written for a right net is read back, line by line; and the laws of the net text.
-use Rattle.std.proofs.Common.{◌≡◌, ℕ, ◌^◌, ◌<◌, Bool, true, false, ◌⊎◌, List, [], ◌∷◌, ◌++◌, map, length, get_or, codes, decimal, Option, sym, refl, ap, ap₂, subst₂, inl, inr, arith}
+use Rattle.std.proofs.Common.{◌≡◌, ℕ, ◌<◌, Bool, true, false, ◌⊎◌, List, [], ◌∷◌, ◌++◌, map, length, get_or, codes, decimal, Option, sym, refl, ap, ap₂, subst₂, inl, inr, arith}
 use lib.ListN.{length-map}
 use Rattle.std.specs.List.{AllByRecursion}
 use Rattle.std.specs.Str.{bytes_eq}
 use Rattle.std.proofs.ByRecursion.{All-get_or}
 use Rattle.formats.specs.declared.kind.Kind.{Kind}
 use Rattle.formats.specs.declared.kind.Kind.TheVariants.{Net, Bank, Line}
-use Rattle.formats.specs.Words.{Shown, IsName, Numeral, Known, value, index_of}
+use Rattle.formats.specs.Words.{Shown, IsName, value, index_of}
 use Rattle.formats.specs.NetText.{Place, Move, Arc, NetText, net, place_names, move_names, letter_of, plant_row, place_row, move_row, arc_row, Right}
 use Rattle.formats.specs.NetClauses.{shape, net_meaning}
 use Rattle.formats.specs.ReadNet.{begun, add_place, add_move, add_arc, net_reader}
@@ -28,9 +28,6 @@ begun_traced Bank = begin net_reader net_meaning agree_line (begun Bank) (codes 
 begun_traced Line = begin net_reader net_meaning agree_line (begun Line) (codes "plant") (codes "line" ∷ []) refl (word_shown (codes "plant") refl, (word_shown (codes "line") refl, tt)) ((Line, refl), tt) refl
 
 -- ---- places
-numeral_of : (d v : ℕ) → v < 10 ^ d → Numeral d (decimal v)
-numeral_of d v h = (v, h, refl)
-
 place_traced : (k : Kind) (ps : List Place) (p : Place) → FitsPlace (net k ps [] []) p → Traced net_reader net_meaning (net k ps [] []) → Traced net_reader net_meaning (net k (ps ++ (p ∷ [])) [] [])
 place_traced k ps p f t =
     let x = net k ps [] [] in
@@ -39,7 +36,7 @@ place_traced k ps p f t =
     let vl : value (decimal p.limit) ≡ p.limit = value_of p.limit (omega arith) in
     extend net_reader net_meaning agree_line x (add_place x p) (codes "place") (p.name ∷ decimal p.tokens ∷ decimal p.limit ∷ []) (place_rows k ps p)
     (word_shown (codes "place") refl, (name_shown p.name f.name_ok, (decimal_shown p.tokens (omega arith), (decimal_shown p.limit (omega arith), tt))))
-    ((refl, refl), (f.room, (f.name_ok, (f.name_new, (numeral_of 3 p.tokens (omega arith), (numeral_of 3 p.limit (omega arith), (omega arith, (omega arith, tt))))))))
+    ((refl, refl), (f.room, (f.name_ok, (f.name_new, ((p.tokens, omega arith, refl), ((p.limit, omega arith, refl), (omega arith, (omega arith, tt))))))))
     (ap₂ (λ (i j : ℕ). add_place x (record { name = p.name; tokens = i; limit = j })) vt vl)
     t
 
@@ -59,9 +56,6 @@ move_traced k ps ms m f t =
     t
 
 -- ---- arcs
-found_known : (ns : List (List ℕ)) (i : ℕ) → i < length ns → Known ns (get_or ns i [])
-found_known ns i l = (i, l, refl)
-
 pair_moved : (xs : List Arc) (a : Arc) (i j : ℕ) → a.place ≡ i → a.move ≡ j → AllByRecursion (λ (b : Arc). (b.place ≡ a.place) × (b.move ≡ a.move) → ⊥) xs → AllByRecursion (λ (b : Arc). (b.place ≡ i) × (b.move ≡ j) → ⊥) xs
 pair_moved xs a i j e q h = subst₂ (λ (u v : ℕ). AllByRecursion (λ (b : Arc). (b.place ≡ u) × (b.move ≡ v) → ⊥) xs) e q h
 
@@ -86,7 +80,7 @@ arc_traced k ps ms xs a r f t =
     let vg : value (decimal a.give) ≡ a.give = value_of a.give (omega arith) in
     extend net_reader net_meaning agree_line x (add_arc x a) (codes "arc") (get_or pn a.place [] ∷ get_or mn a.move [] ∷ decimal a.take ∷ decimal a.give ∷ []) (arc_rows k ps ms xs a)
     (word_shown (codes "arc") refl, (name_shown (get_or pn a.place []) ni, (name_shown (get_or mn a.move []) nj, (decimal_shown a.take (omega arith), (decimal_shown a.give (omega arith), tt)))))
-    (ni, (found_known pn a.place li, (nj, (found_known mn a.move lj, (numeral_of 1 a.take (omega arith), (numeral_of 1 a.give (omega arith), (omega (arith, vt, vg), (pair_moved xs a (index_of pn (get_or pn a.place [])) (index_of mn (get_or mn a.move [])) (sym ei) (sym ej) f.pair_new, (f.in_net, tt)))))))))
+    (ni, ((a.place, li, refl), (nj, ((a.move, lj, refl), ((a.take, omega arith, refl), ((a.give, omega arith, refl), (omega (arith, vt, vg), (pair_moved xs a (index_of pn (get_or pn a.place [])) (index_of mn (get_or mn a.move [])) (sym ei) (sym ej) f.pair_new, (f.in_net, tt)))))))))
     (ap (λ (b : Arc). add_arc x b) (arc_value (index_of pn (get_or pn a.place [])) (index_of mn (get_or mn a.move [])) (value (decimal a.take)) (value (decimal a.give)) a ei ej vt vg))
     t
 

@@ -13,7 +13,7 @@ use Rattle.formats.specs.NetClauses.Shape.{a_plant, a_place, a_move, an_arc, no_
 use Rattle.formats.specs.ReadNet.{kind_of, begun, add_place, add_move, add_arc, after}
 use Rattle.formats.proofs.Whole.{rows_so_far}
 use Rattle.formats.proofs.Tests.{numeral_is, known_index}
-use Rattle.formats.proofs.NetAdding.{FitsPlace, FitsMove, FitsArc, place_in, place_rows, move_in, move_rows, arc_in, arc_rows}
+use Rattle.formats.proofs.NetAdding.{one_more, FitsPlace, FitsMove, FitsArc, place_in, place_rows, move_in, move_rows, arc_in, arc_rows}
 
 -- ---- the fields that a shape stands for
 abbrev pub fields_of : Shape → List (List ℕ)
@@ -59,9 +59,6 @@ move_step x m no_arcs =
     subst P (sym no_arcs) (λ r f. (move_in x.kind x.places x.moves m r f, move_rows x.kind x.places x.moves m))
 
 -- ---- each line
-one_more : (rs qs : List (List (List ℕ))) (a b : List (List ℕ)) → qs ≡ rs ++ (a ∷ []) → a ≡ b → qs ≡ rs ++ (b ∷ [])
-one_more rs qs a b e q = e ∙ ap (λ (z : List (List ℕ)). rs ++ (z ∷ [])) q
-
 plant_done : (f : List ℕ) (k : Kind) → f ≡ kind_word k → rows (begun (kind_of f)) ≡ (codes "plant" ∷ f ∷ []) ∷ []
 plant_done f k e =
     ap (λ (z : List ℕ). (codes "plant" ∷ z ∷ []) ∷ []) (ap (λ (z : List ℕ). kind_word (kind_of z)) e ∙ word_kind k ∙ sym e)

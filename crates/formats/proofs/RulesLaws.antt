@@ -9,6 +9,7 @@ use Rattle.std.proofs.lemmas.Slice.Eq.{bytes_eq-Decides}
 use Rattle.std.proofs.lemmas.Fmt.{digits_decimal, decimal_nonempty}
 use Rattle.std.proofs.lemmas.Str.Parse.{tells_all_ascii_digits}
 use Rattle.std.proofs.lemmas.Bool.{cond-false, eqb-true, ne_eqb, false≢true}
+use Rattle.std.proofs.lemmas.Bool.Decides.{Decides-and, Decides-ltb}
 use Rattle.formats.specs.Words.{Shown, IsName, Apart, is_numeral, value}
 use Rattle.formats.specs.Texts.{Check, Clause, Keeps, RightSoFar, Exact, Refusals, EachText}
 use Rattle.formats.specs.Sums.{Part, sum_written, terms, lead_length, sum_of, sum_checks, sum_clauses}
@@ -16,10 +17,10 @@ use Rattle.formats.specs.NetText.{NetText, names, place_names, move_names, Right
 use Rattle.formats.specs.RulesText.{RuleLine, RulesText, all_lines, rule_names, line_row, rule_rows, RightLine, RightRules, Bound, RuleShape, rule_shape, line_clauses, clauses_of, rules_meaning, is_bound, bound_of, line_of, line_checks, checks_of, opened, add_rule, after_rule, rules_reader}
 use Rattle.formats.specs.RulesText.RuleShape.{a_fixed, a_rule, neither}
 use Rattle.formats.specs.Laws.{RulesExact, RulesRefusals, RulesDecided}
-use Rattle.formats.proofs.Tests.{own, value_of, d_and, d_leb, d_ltb, d_no, d_name, d_new, d_numeral, numeral_is}
+use Rattle.formats.proofs.Tests.{own, value_of, d_leb, refused, d_name, d_new, d_numeral, numeral_is}
 use Rattle.formats.proofs.Bytes.{Clean, name_shown, decimal_shown, word_shown}
 use Rattle.formats.proofs.Ordered.{Agree, agree_append}
-use Rattle.formats.proofs.NetAdding.{all_pop, all_split, apart_push, apart_pop, apart_split}
+use Rattle.formats.proofs.NetAdding.{one_more, all_pop, all_split, apart_push, apart_pop, apart_split}
 use Rattle.formats.proofs.SumLaws.{keeps_split, keeps_append, sum_agree, field_in, field_out, sum_shown}
 use Rattle.formats.proofs.Whole.{rows_so_far, Traced, Lawful, begin, extend, from_end, exact, refusals, each_text}
 
@@ -35,7 +36,7 @@ bound_fits (c ∷ cs) e = go (eqb c 45) refl e
     go : (t : Bool) → eqb c 45 ≡ t → cond t (is_numeral 6 cs && leb 1 (value cs)) (is_numeral 6 (c ∷ cs)) ≡ true
         → (nat_abs (cond t (neg_ℤ (pos (value cs))) (pos (value (c ∷ cs)))) < 10 ^ 6) × (c ∷ cs ≡ signed_decimal (cond t (neg_ℤ (pos (value cs))) (pos (value (c ∷ cs)))))
     go true q h =
-        let p = (d_and (is_numeral 6 cs) (leb 1 (value cs)) (d_numeral 6 cs (omega arith) (omega arith)) (d_leb 1 (value cs))).0 h in
+        let p = (Decides-and (is_numeral 6 cs) (leb 1 (value cs)) (d_numeral 6 cs (omega arith) (omega arith)) (d_leb 1 (value cs))).0 h in
         let w = numeral_is 6 cs (omega arith) p.0 in
         let m = minus_written (value cs) p.1 in
         (omega (arith, w.0, m.1), ap₂ (λ (u : ℕ) (v : List ℕ). u ∷ v) (eqb-true c 45 q) w.1 ∙ sym m.0)
@@ -56,7 +57,7 @@ written_bound (pos n) h = plain_bound n (decimal n) refl (omega arith)
 written_bound (negsuc n) h =
     let v : value (decimal (suc n)) ≡ suc n = value_of (suc n) (omega arith) in
     let ds = decimal (suc n) in (
-      (d_and (is_numeral 6 ds) (leb 1 (value ds)) (d_numeral 6 ds (omega arith) (omega arith)) (d_leb 1 (value ds))).1 ((suc n, omega arith, refl), omega arith),
+      (Decides-and (is_numeral 6 ds) (leb 1 (value ds)) (d_numeral 6 ds (omega arith) (omega arith)) (d_leb 1 (value ds))).1 ((suc n, omega arith, refl), omega arith),
       ap (λ (u : ℕ). neg_ℤ (pos u)) v,
     )
 
@@ -85,15 +86,12 @@ line_agree used ps at n s b = (
   ),
 )
 
-refused : Decides false ⊥
-refused = d_no false refl
-
 agree_shape : (taken ps : List (List ℕ)) (s : Option RulesText) (at : ℕ) (l : RuleShape) → Agree (checks_of taken ps s at l) (clauses_of taken ps s at l)
 agree_shape taken ps None at (a_fixed n s b) = line_agree taken ps (at + 6) n s b
 agree_shape taken ps None at (a_rule n s b) = (refused, refl, refl, tt)
 agree_shape taken ps None at neither = (refused, refl, refl, tt)
 agree_shape taken ps (Some x) at (a_fixed n s b) = (refused, refl, refl, tt)
-agree_shape taken ps (Some x) at (a_rule n s b) = (d_ltb (length x.others) 12, refl, refl, line_agree (taken ++ rule_names x) ps (at + 5) n s b)
+agree_shape taken ps (Some x) at (a_rule n s b) = (Decides-ltb (length x.others) 12, refl, refl, line_agree (taken ++ rule_names x) ps (at + 5) n s b)
 agree_shape taken ps (Some x) at neither = (refused, refl, refl, tt)
 
 -- ---- a line
@@ -165,9 +163,6 @@ rule_out taken ps x r h =
       record { few = omega arith; each = a.0; different = d.0 },
       (l, (a.1.0, All-append (λ m. m ≡ r.name → ⊥) taken (rule_names x) a.1.1 d.1, a.1.2, a.1.3)),
     )
-
-one_more : (rs qs : List (List (List ℕ))) (a b : List (List ℕ)) → qs ≡ rs ++ (a ∷ []) → a ≡ b → qs ≡ rs ++ (b ∷ [])
-one_more rs qs a b e q = e ∙ ap (λ (z : List (List ℕ)). rs ++ (z ∷ [])) q
 
 -- ---- the laws, for the names of a net
 agree_line : (taken ps : List (List ℕ)) (s : Option RulesText) (at : ℕ) (fs : List (List ℕ)) → Agree ((rules_reader taken ps).checks s at fs) ((rules_meaning taken ps).clauses s at fs)

@@ -1,5 +1,6 @@
 -- The laws of sums.
 use Rattle.std.proofs.Common.{◌≡◌, ℕ, ◌+◌, ◌<◌, ◌≤◌, Bool, true, false, cond, eqb, List, [], ◌∷◌, ◌++◌, map, length, get_or, ℤ, pos, ◌+ℤ◌, nat_abs, Some, None, Ok, Err, Option, sym, refl, ap, ◌∙◌, subst, ap₂, append_assoc, append-nil, arith}
+use lib.IntN.{+ℤ_idr}
 use borrow.Author.Differences.{ints}
 use Rattle.std.specs.List.{AllByRecursion}
 use Rattle.std.proofs.ByRecursion.{All-get_or, All-append}
@@ -149,7 +150,7 @@ told_sum ns at f qs None e h =
     let i = field_in ns at f (keeps (sum_checks ns at [] (terms f)) (sum_clauses ns at [] (terms f)) (sum_agree ns (terms f) at []) e) in
     let same : sum_of ns (terms f) ≡ qs = cc in
     subst (λ (z : List Part). ProperSum ns z × (f ≡ sum_written ns z)) same i
-told_sum ns at f qs (Some d) e h = let z : ◌≡◌ {A = ℕ} 0 1 = cc in absurd (omega arith)
+told_sum ns at f qs (Some d) e h = grind arith
 
 pub sum_exact : SumExact
 unfolding read_sum
@@ -165,7 +166,7 @@ sum_exact ns at f qs named apart = (
 )
 
 failed_sum : (ns : List (List ℕ)) (at : ℕ) (f : List ℕ) (d : Check) (o : Option Check) → first_failed (sum_checks ns at [] (terms f)) ≡ o → unless_sum o (sum_of ns (terms f)) ≡ Err d → Breaks (sum_clauses ns at [] (terms f)) d.refusal d.byte
-failed_sum ns at f d None e h = let z : ◌≡◌ {A = ℕ} 0 1 = cc in absurd (omega arith)
+failed_sum ns at f d None e h = grind arith
 failed_sum ns at f d (Some c) e h =
     let same : c ≡ d = cc in
     breaks (sum_checks ns at [] (terms f)) (sum_clauses ns at [] (terms f)) d (sum_agree ns (terms f) at []) (e ∙ ap (λ (x : Check). Some x) same)
@@ -180,24 +181,18 @@ sum_refusals ns at f c i =
           (w.0, ap (λ (o : Option Check). unless_sum o (sum_of ns (terms f))) w.1, w.2, w.3),
     )
 
-push_step : (a w x y : ℤ) → y ≡ w +ℤ x → a +ℤ y ≡ (a +ℤ w) +ℤ x
-push_step a w x y e = omega (arith, ints)
-
 pub weight_push : WeightPush
 weight_push [] q p = omega (arith, ints)
-weight_push (r ∷ qs) q p = push_step (cond (eqb r.place p) (amount r) (pos 0)) (weight qs p) (cond (eqb q.place p) (amount q) (pos 0)) (weight (qs ++ (q ∷ [])) p) (weight_push qs q p)
+weight_push (r ∷ qs) q p = omega (arith, ints, weight_push qs q p)
 
 -- ---- weights in range
-zero_more : (w : ℤ) → w +ℤ pos 0 ≡ w
-zero_more w = omega (arith, ints)
-
 push_in : (ns : List (List ℕ)) (done : List Part) (q : Part) (p : ℕ) → q.place < length ns → nat_abs (weight done q.place +ℤ amount q) ≤ 99 → (nat_abs (weight done p) ≤ 99) × (length ns ≤ p → weight done p ≡ pos 0)
     → (t : Bool) → eqb q.place p ≡ t → (v : ℤ) → v ≡ weight done p +ℤ cond t (amount q) (pos 0) → (nat_abs v ≤ 99) × (length ns ≤ p → v ≡ pos 0)
 push_in ns done q p l h w true e v is =
     let same : q.place ≡ p = eqb-true q.place p e in
     (subst (λ (z : ℤ). nat_abs z ≤ 99) (sym is) (subst (λ (i : ℕ). nat_abs (weight done i +ℤ amount q) ≤ 99) same h), λ k. absurd (omega arith))
 push_in ns done q p l h w false e v is =
-    let same : v ≡ weight done p = is ∙ zero_more (weight done p) in
+    let same : v ≡ weight done p = is ∙ +ℤ_idr (weight done p) in
     (subst (λ (z : ℤ). nat_abs z ≤ 99) (sym same) w.0, λ k. same ∙ w.1 k)
 
 running_in : (ns : List (List ℕ)) (qs done : List Part) → Running ns done qs → ((p : ℕ) → (nat_abs (weight done p) ≤ 99) × (length ns ≤ p → weight done p ≡ pos 0))

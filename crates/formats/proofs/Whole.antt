@@ -3,14 +3,16 @@ use Rattle.std.proofs.Common.{◌≡◌, ℕ, ◌+◌, ◌≤◌, Bool, true, fa
 use Rattle.std.specs.List.{AllByRecursion}
 use Rattle.std.proofs.lemmas.List.{map_push, length_push}
 use Rattle.std.proofs.ByRecursion.{All-push}
-use Rattle.std.proofs.lemmas.Bool.{cond-true, cond-false}
+use Rattle.std.proofs.lemmas.Bool.{cond-true, cond-false, false_from_ne_true}
+use Rattle.std.proofs.lemmas.Option.{none-some}
+use Rattle.std.proofs.lemmas.Bool.Decides.{Decides-and, Decides-eqb, Decides-like, Decides-ltb, not_from_Decides}
 use Rattle.model.specs.declared.refusal.Refusal.{Refusal}
 use Rattle.model.specs.declared.refusal.Refusal.TheVariants.{Form, Byte, NotOfKind}
 use Rattle.formats.specs.declared.fault.TextFault.{TextFault}
 use Rattle.formats.specs.Words.{Allowed, is_allowed, joined, unlines, fields, lines, last}
 use Rattle.formats.specs.Texts.{Check, fault, first_failed, Keeps, Breaks, Reader, ended, unless, read_lines, is_text, bad_byte, unless_byte, read_text, Meaning, written, Proper, so_far, lines_so_far, RightSoFar, IsText, newlines, Refused, Exact, Refusals, EachText}
 use Rattle.formats.specs.Texts.Refused.{no_text, no_byte, no_line, no_end}
-use Rattle.formats.proofs.Tests.{d_same, d_and, d_leb, d_ltb, d_eqb, d_fails, d_allowed}
+use Rattle.formats.proofs.Tests.{d_leb, d_allowed}
 use Rattle.formats.proofs.Pieces.{joined_fields, fields_joined, unlines_append, lines_unlines, unlines_lines, lines_clean, lines_line, last_unlines}
 use Rattle.formats.proofs.Bytes.{Clean, not_tab, unlines_allowed, rows_no_ten}
 use Rattle.formats.proofs.Ordered.{Agree, keeps, passes, breaks, fails}
@@ -18,9 +20,8 @@ use Rattle.formats.proofs.Ordered.{Agree, keeps, passes, breaks, fails}
 -- ---- the whole text's checks
 pub d_text : (bs : List ℕ) → Decides (is_text bs) (IsText bs)
 d_text bs =
-    d_same (is_text bs)
-    (d_and (ltb 0 (length bs)) (leb (length bs) 16384 && eqb (last bs) 10) (d_ltb 0 (length bs)) (d_and (leb (length bs) 16384) (eqb (last bs) 10) (d_leb (length bs) 16384) (d_eqb (last bs) 10)))
-    (λ h. (h.0, h.1.0, h.1.1)) (λ h. (h.0, (h.1, h.2)))
+    Decides-like (is_text bs) (λ h. (h.0, h.1.0, h.1.1)) (λ h. (h.0, (h.1, h.2)))
+    (Decides-and (ltb 0 (length bs)) (leb (length bs) 16384 && eqb (last bs) 10) (Decides-ltb 0 (length bs)) (Decides-and (leb (length bs) 16384) (eqb (last bs) 10) (d_leb (length bs) 16384) (Decides-eqb (last bs) 10)))
 
 pub bytes_fine : (k i : ℕ) (bs : List ℕ) → bad_byte k i bs ≡ None → AllByRecursion Allowed bs
 bytes_fine k i [] e = tt
@@ -29,7 +30,7 @@ bytes_fine k i (b ∷ bs) e = go (is_allowed b) refl e (λ q. bytes_fine (cond (
     go : (t : Bool) → is_allowed b ≡ t → cond t (bad_byte (cond (eqb b 10) (k + 1) k) (i + 1) bs) (Some (fault Byte k i)) ≡ None
         → (bad_byte (cond (eqb b 10) (k + 1) k) (i + 1) bs ≡ None → AllByRecursion Allowed bs) → AllByRecursion Allowed (b ∷ bs)
     go true p q r = ((d_allowed b).0 p, r q)
-    go false p q r = let z : ◌≡◌ {A = ℕ} 0 1 = cc in absurd (omega arith)
+    go false p q r = absurd (none-some (fault Byte k i) (sym q))
 
 pub fine_bytes : (k i : ℕ) (bs : List ℕ) → AllByRecursion Allowed bs → bad_byte k i bs ≡ None
 fine_bytes k i [] h = refl
@@ -46,14 +47,10 @@ pub record FirstBad (k i : ℕ) (bs : List ℕ) (f : TextFault) : Type 0 where
   pub told : f ≡ fault Byte (k + newlines front) (i + length front)
 
 line_on : (b k n : ℕ) → cond (eqb b 10) (k + 1) k + n ≡ k + (cond (eqb b 10) 1 0 + n)
-line_on b k n = go (eqb b 10)
-  where
-    go : (t : Bool) → cond t (k + 1) k + n ≡ k + (cond t 1 0 + n)
-    go true = omega arith
-    go false = omega arith
+line_on b k n = grind arith
 
 pub bytes_bad : (k i : ℕ) (bs : List ℕ) (f : TextFault) → bad_byte k i bs ≡ Some f → FirstBad k i bs f
-bytes_bad k i [] f e = let z : ◌≡◌ {A = ℕ} 0 1 = cc in absurd (omega arith)
+bytes_bad k i [] f e = absurd (none-some f e)
 bytes_bad k i (b ∷ bs) f e = go (is_allowed b) refl e (λ q. bytes_bad (cond (eqb b 10) (k + 1) k) (i + 1) bs f q)
   where
     go : (t : Bool) → is_allowed b ≡ t → cond t (bad_byte (cond (eqb b 10) (k + 1) k) (i + 1) bs) (Some (fault Byte k i)) ≡ Some f
@@ -77,18 +74,14 @@ bytes_bad k i (b ∷ bs) f e = go (is_allowed b) refl e (λ q. bytes_bad (cond (
           back = bs;
           splits = refl;
           good = tt;
-          wrong = d_fails (is_allowed b) (d_allowed b) p;
+          wrong = not_from_Decides (is_allowed b) (d_allowed b) p;
           told = sym same ∙ ap₂ (λ (u v : ℕ). fault Byte u v) (omega arith) (omega arith);
         }
 
 pub bad_bytes : (k i : ℕ) (front : List ℕ) (b : ℕ) (back : List ℕ) → AllByRecursion Allowed front → (Allowed b → ⊥) → bad_byte k i (front ++ (b ∷ back)) ≡ Some (fault Byte (k + newlines front) (i + length front))
 bad_bytes k i [] b back h n =
-    cond-false _ (bad_byte (cond (eqb b 10) (k + 1) k) (i + 1) back) (Some (fault Byte k i)) (no (is_allowed b) refl)
+    cond-false _ (bad_byte (cond (eqb b 10) (k + 1) k) (i + 1) back) (Some (fault Byte k i)) (false_from_ne_true (is_allowed b) (λ e. n ((d_allowed b).0 e)))
     ∙ ap₂ (λ (u v : ℕ). Some (fault Byte u v)) (omega arith) (omega arith)
-  where
-    no : (t : Bool) → is_allowed b ≡ t → is_allowed b ≡ false
-    no true e = absurd (n ((d_allowed b).0 e))
-    no false e = e
 bad_bytes k i (c ∷ front) b back h n =
     cond-true _ (bad_byte (cond (eqb c 10) (k + 1) k) (i + 1) (front ++ (b ∷ back))) (Some (fault Byte k i)) ((d_allowed c).1 h.0)
     ∙ bad_bytes (cond (eqb c 10) (k + 1) k) (i + 1) front b back h.1 n
@@ -172,19 +165,6 @@ abbrev Outcome : {X : Type 0} → Meaning X → List ℕ → Result X TextFault 
 Outcome M bs (Ok x) = M.Right x × M.Complete x × (bs ≡ written M x) × (length bs ≤ 16384)
 Outcome M bs (Err f) = Refused M bs f
 
-same_ok : {X : Type 0} (r : Result X TextFault) (x y : X) → r ≡ Ok x → r ≡ Ok y → x ≡ y
-same_ok r x y p q = cc
-
-same_err : {X : Type 0} (r : Result X TextFault) (f g : TextFault) → r ≡ Err f → r ≡ Err g → f ≡ g
-same_err r f g p q = cc
-
-never : {X : Type 0} (r : Result X TextFault) (x : X) (f : TextFault) → r ≡ Ok x → r ≡ Err f → ⊥
-never r x f p q = let z : ◌≡◌ {A = ℕ} 0 1 = cc in omega arith
-
-false_from : {P : Type 0} (b : Bool) → (b ≡ true → P) → (P → ⊥) → b ≡ false
-false_from true d n = absurd (n (d refl))
-false_from false d n = refl
-
 module _ {X : Type 0} (R : Reader X) (M : Meaning X) (law : Lawful R M) where
   so_far_rows : (s : Option X) → (so_far M s ≡ unlines (map joined (rows_so_far M s))) × (lines_so_far M s ≡ length (rows_so_far M s))
   unfolding written
@@ -203,7 +183,7 @@ module _ {X : Type 0} (R : Reader X) (M : Meaning X) (law : Lawful R M) where
   module _ (bs : List ℕ) (text : IsText bs) (allowed : AllByRecursion Allowed bs) where
     at_end : (x : X) → M.Right x → bs ≡ written M x → (t : Bool) → R.is_whole x ≡ t → Outcome M bs (cond t (Ok x) (Err (fault NotOfKind 0 (length (written M x)))))
     at_end x r e true w = (r, (law.d_whole x).0 w, e, text.1)
-    at_end x r e false w = no_end text allowed x r e (d_fails (R.is_whole x) (law.d_whole x) w) (ap (λ (z : List ℕ). fault NotOfKind 0 (length z)) (sym e))
+    at_end x r e false w = no_end text allowed x r e (not_from_Decides (R.is_whole x) (law.d_whole x) w) (ap (λ (z : List ℕ). fault NotOfKind 0 (length z)) (sym e))
 
     finish : (s : Option X) → RightSoFar M s → bs ≡ so_far M s ++ [] → Outcome M bs (ended R s (length (so_far M s)))
     finish None r e = absurd (omega (arith, text.0, ap length e))
@@ -239,7 +219,7 @@ module _ {X : Type 0} (R : Reader X) (M : Meaning X) (law : Lawful R M) where
 
   told_go : (bs : List ℕ) (t : Bool) → is_text bs ≡ t → Outcome M bs (cond t (unless_byte (bad_byte 1 0 bs) (read_lines R None 1 0 (lines bs))) (Err (fault Form 0 0)))
   told_go bs true e = told_bytes bs ((d_text bs).0 e) (bad_byte 1 0 bs) refl
-  told_go bs false e = no_text (d_fails (is_text bs) (d_text bs) e) refl
+  told_go bs false e = no_text (not_from_Decides (is_text bs) (d_text bs) e) refl
 
   told_text : (bs : List ℕ) → Outcome M bs (read_text R bs)
   unfolding read_text
@@ -288,7 +268,7 @@ module _ {X : Type 0} (R : Reader X) (M : Meaning X) (law : Lawful R M) where
   -- ---- refusals
   refuse_text : (bs : List ℕ) → (IsText bs → ⊥) → read_text R bs ≡ Err (fault Form 0 0)
   unfolding read_text
-  refuse_text bs n = cond-false _ (unless_byte (bad_byte 1 0 bs) (read_lines R None 1 0 (lines bs))) (Err (fault Form 0 0)) (false_from (is_text bs) (d_text bs).0 n)
+  refuse_text bs n = cond-false _ (unless_byte (bad_byte 1 0 bs) (read_lines R None 1 0 (lines bs))) (Err (fault Form 0 0)) (false_from_ne_true (is_text bs) (λ e. n ((d_text bs).0 e)))
 
   refuse_byte : (bs : List ℕ) → IsText bs → (front : List ℕ) (b : ℕ) (back : List ℕ) → bs ≡ front ++ (b ∷ back) → AllByRecursion Allowed front → (Allowed b → ⊥) → read_text R bs ≡ Err (fault Byte (newlines front + 1) (length front))
   unfolding read_text
@@ -311,7 +291,7 @@ module _ {X : Type 0} (R : Reader X) (M : Meaning X) (law : Lawful R M) where
   refuse_end : (bs : List ℕ) → IsText bs → AllByRecursion Allowed bs → (x : X) → M.Right x → bs ≡ written M x → (M.Complete x → ⊥) → read_text R bs ≡ Err (fault NotOfKind 0 (length bs))
   refuse_end bs t a x r e n =
       read_through bs t a ∙ ap (λ (z : List ℕ). read_lines R None 1 0 (lines z)) e ∙ read_written x r
-      ∙ cond-false (R.is_whole x) (Ok x) (Err (fault NotOfKind 0 (length (written M x)))) (false_from (R.is_whole x) (law.d_whole x).0 n)
+      ∙ cond-false (R.is_whole x) (Ok x) (Err (fault NotOfKind 0 (length (written M x)))) (false_from_ne_true (R.is_whole x) (λ e. n ((law.d_whole x).0 e)))
       ∙ ap (λ (z : List ℕ). Err (fault NotOfKind 0 (length z))) (sym e)
 
   refuse : (bs : List ℕ) (f : TextFault) → Refused M bs f → read_text R bs ≡ Err f
@@ -332,10 +312,10 @@ module _ {X : Type 0} (R : Reader X) (M : Meaning X) (law : Lawful R M) where
   each_text bs = (
     which bs (read_text R bs) (told_text bs),
     (
-      λ x y p q e d. same_ok (read_text R bs) x y ((exact bs x).1 p e) ((exact bs y).1 q d),
+      λ x y p q e d. let r = (exact bs x).1 p e in let s = (exact bs y).1 q d in cc,
       (
-        λ f g p q. same_err (read_text R bs) f g (refuse bs f p) (refuse bs g q),
-        λ x f p e q. never (read_text R bs) x f ((exact bs x).1 p e) (refuse bs f q),
+        λ f g p q. let r = refuse bs f p in let s = refuse bs g q in cc,
+        λ x f p e q. grind (arith, (exact bs x).1 p e, refuse bs f q),
       ),
     ),
   )

@@ -1,15 +1,16 @@
 -- A built pile keeps the invariant.
 use Rattle.std.proofs.Common.{◌≡◌, ℕ, ◌+◌, ◌-◌, ◌<◌, ◌≤◌, max, Bool, true, false, cond, ◌&&◌, ltb, leb, ◌⊎◌, List, [], ◌∷◌, ℤ, pos, ◌-ℤ◌, Ok, sym, refl, ap, ◌∙◌, subst, ap₂, inl, inr, zero-le, le_trans, arith, ltb-true}
 use mathlib.Core.Path.{fun_ext}
+use Rattle.std.proofs.lemmas.Bool.Decides.{nat_tests}
 use mathlib.Core.List.Memᴰ
 use Rattle.model.specs.declared.refusal.Refusal.TheVariants.{NoRow}
-use Rattle.model.specs.Sizes.{control_limit, most_all_places, most_open}
-use Rattle.model.specs.Net.{Net, Ranges, sum}
+use Rattle.model.specs.Sizes.{control_limit, most_all_places}
+use Rattle.model.specs.Net.{Net, Ranges}
 use Rattle.model.specs.Plant.{setting_fault, refuse_unless}
 use Rattle.model.specs.Rule.{Rule, Worked, positive, weighted_free}
 use Rattle.model.specs.Working.{work}
 use Rattle.model.specs.Layer.{blank, is_shut, next_layer, Top, monitor, board, row_count, open_rows, Pile, pile_net, pile_free, plant_alone, with_layer, row_place, with_rule, top_answer, board_answer, InForce, in_force, Built, bare, monitored, boarded, monitor_set, board_set}
-use Rattle.model.specs.Ledger.{taken, reserved}
+use Rattle.model.specs.Ledger.{reserved}
 use Rattle.model.specs.Laws.{BlankPlace, Ruled}
 use Rattle.model.proofs.Sums.{sum_none, sum_zero}
 use Rattle.model.proofs.Checks.{else_ok, refuse_unless_ok}
@@ -40,34 +41,25 @@ grown n s = record {
 }
 
 module _ (n : Net) (k : ℕ) (R : Ranges n) where
-  blank_arc : (b : Bool) → ◌≡◌ {A = ℕ} (cond b 0 0) 0
-  blank_arc true = refl
-  blank_arc false = refl
-
   abbrev arcs : (ℕ → ℕ → ℕ) → (ℕ → ℕ → ℕ) → Net
   arcs take give = record { ground_places = n.ground_places; places = n.places + k; moves = n.moves; controllable = n.controllable; take = take; give = give; limit = (grown n k).limit; layer = (grown n k).layer; row = (grown n k).row }
 
   pub blank_net : open_net k n (λ r. blank) ≡ grown n k
-  blank_net = ap₂ arcs
-      (fun_ext (λ i. fun_ext (λ t. stretch (λ x. x ≡ n.take i t) n.places (n.places + k) i (cond (n.controllable t) 0 0) (n.take i t) (λ a b. blank_arc (n.controllable t) ∙ sym (R.no_place i t a).0) (λ d. refl))))
-      (fun_ext (λ i. fun_ext (λ t. stretch (λ x. x ≡ n.give i t) n.places (n.places + k) i (cond (ltb t n.moves) 0 0) (n.give i t) (λ a b. blank_arc (ltb t n.moves) ∙ sym (R.no_place i t a).1) (λ d. refl))))
+  blank_net = ap₂ arcs (fun_ext (λ i. fun_ext (λ t. grind (arith, nat_tests, R.no_place i t)))) (fun_ext (λ i. fun_ext (λ t. grind (arith, nat_tests, R.no_place i t))))
 
   grown_ranges : n.places + k ≤ most_all_places → Ranges (grown n k)
   grown_ranges few = subst (λ (m : Net). Ranges m) blank_net (open_ranges k n (λ r. blank) R (λ r t l. (zero-le, zero-le)) few)
 
 grown_room : (n : Net) (free g : ℕ → ℕ) (q : ℕ → ℤ) (rs : List InForce) → Steady n free g q rs → (p : ℕ) → n.places ≤ p → BlankPlace n free p ⊎ Ruled rs p → free p ≡ 0
 grown_room n free g q rs s p l (inl b) = b.no_free
-grown_room n free g q rs s p l (inr r) = absurd (wrong r.rule.place p n.places r.there (s.rules r.rule r.stands).high l)
-  where
-    wrong : (a p m : ℕ) → a ≡ p → a < m → m ≤ p → ⊥
-    wrong a p m e h k = omega arith
+grown_room n free g q rs s p l (inr r) = absurd (omega (arith, r.there, (s.rules r.rule r.stands).high))
 
 grown_steady : (n : Net) (free g : ℕ → ℕ) (q : ℕ → ℤ) (rs : List InForce) (k : ℕ) → n.places + k ≤ most_all_places → ((t : ℕ) → g t ≡ 0) → Steady n free g q rs → Steady (grown n k) free g q rs
 grown_steady n free g q rs k few z s = record {
   ranges = grown_ranges n k s.ranges few;
   roomy = λ p l. stretch (λ x. free p + reserved n g p ≤ x) n.places (n.places + k) p control_limit (n.limit p)
-      (λ a b. empty (free p) (reserved n g p) (grown_room n free g q rs s p a (s.control p (le2 n.ground_places n.places p s.ranges.places_all a))) (sum_none n.moves g (λ u. max (n.take p u) (n.give p u)) (λ i h. z i)))
-      (λ d. s.roomy p (before p n.places k l d));
+      (λ a b. omega (arith, grown_room n free g q rs s p a (s.control p (le_trans s.ranges.places_all a)), sum_none n.moves g (λ u. max (n.take p u) (n.give p u)) (λ i h. z i)))
+      (λ d. s.roomy p (elim d [ inl b ↦ b | inr b ↦ absurd (omega arith) ]));
   few = s.few;
   beyond = s.beyond;
   marked = s.marked;
@@ -79,21 +71,8 @@ grown_steady n free g q rs k few z s = record {
     same c (inl b) = inl (record { no_free = b.no_free; no_take = b.no_take; no_give = b.no_give })
     same c (inr r) = inr r
 
-    empty : (a b : ℕ) → a ≡ 0 → b ≡ 0 → a + b ≤ control_limit
-    empty a b e k = omega arith
-
-    le2 : (a b c : ℕ) → a ≤ b → b ≤ c → a ≤ c
-    le2 a b c h k = omega arith
-
-    before : (p a s : ℕ) → p < a + s → (p < a) ⊎ (a + s ≤ p) → p < a
-    before p a s h (inl l) = l
-    before p a s h (inr l) = absurd (omega arith)
-
     rule : (r : InForce) → Stands n free g q r → Stands (grown n k) free g q r
-    rule r d = record { low = d.low; high = more r.place n.places k d.high; takes = d.takes; gives = d.gives; adds_up = d.adds_up; working = work_on_ground n (grown n k) (record { same_ground = refl; same_moves = refl; same_controllable = λ t. refl; same_take = λ p t l. refl; same_give = λ p t l. refl }) r.typed ∙ d.working }
-      where
-        more : (a b c : ℕ) → a < b → a < b + c
-        more a b c h = omega arith
+    rule r d = record { low = d.low; high = omega (arith, d.high); takes = d.takes; gives = d.gives; adds_up = d.adds_up; working = work_on_ground n (grown n k) (record { same_ground = refl; same_moves = refl; same_controllable = λ t. refl; same_take = λ p t l. refl; same_give = λ p t l. refl }) r.typed ∙ d.working }
 
 module _ (p : Pile) (rs : List InForce) (top : Top) (h : Good p rs) where
   abbrev n : Net
@@ -118,10 +97,7 @@ module _ (p : Pile) (rs : List InForce) (top : Top) (h : Good p rs) where
       (grown_steady n (pile_free p) (λ t. 0) (λ i. pos (pile_free p i)) rs k (not_shut k n e) (λ t. refl) h.steady)
 
   there : (r : ℕ) → r < k → is_shut k n ≡ false → ((pile_net (with_layer top p)).ground_places ≤ n.places) × (n.places + r < (pile_net (with_layer top p)).places)
-  there r l e = subst (λ (m : Net). (m.ground_places ≤ n.places) × (n.places + r < m.places)) (sym (net_opens k n (λ r. blank) e)) (h.steady.ranges.places_all, less n.places r k l)
-    where
-      less : (a b c : ℕ) → b < c → a + b < a + c
-      less a b c h = omega arith
+  there r l e = subst (λ (m : Net). (m.ground_places ≤ n.places) × (n.places + r < m.places)) (sym (net_opens k n (λ r. blank) e)) (h.steady.ranges.places_all, omega arith)
 
   good_layer : Good (with_layer top p) rs
   good_layer = record {
@@ -134,34 +110,19 @@ good_bare : (n : Net) (free : ℕ → ℕ) → Ranges n → n.places ≡ n.groun
 good_bare n free R all fits = record {
   steady = record {
     ranges = R;
-    roomy = λ i l. room (free i) (reserved n (λ t. 0) i) (n.limit i) (fits i) (sum_none n.moves (λ t. 0) (λ u. max (n.take i u) (n.give i u)) (λ u h. refl));
-    few = few (sum n.moves (λ t. 0)) (sum_zero n.moves);
+    roomy = λ i l. omega (arith, fits i, sum_none n.moves (λ t. 0) (λ u. max (n.take i u) (n.give i u)) (λ u h. refl));
+    few = omega (arith, sum_zero n.moves);
     beyond = λ t l. refl;
-    marked = λ i l. ap pos (mark (free i) (taken n (λ t. 0) i) (sum_none n.moves (λ t. 0) (n.take i) (λ u h. refl)));
+    marked = λ i l. ap pos (omega (arith, sum_none n.moves (λ t. 0) (n.take i) (λ u h. refl)));
     rules = λ r m. absurd (Memᴰ.not-nil m);
     control = λ c l. inl (blank_at c (subst (λ (x : ℕ). x ≤ c) (sym all) l));
   };
-  shape = record { based = R; there = λ r l d. absurd (no_row r l); settled = λ i m. absurd (Memᴰ.not-nil m) };
+  shape = record { based = R; there = λ r l d. absurd (omega arith); settled = λ i m. absurd (Memᴰ.not-nil m) };
 }
   where
-    room : (a b l : ℕ) → a ≤ l → b ≡ 0 → a + b ≤ l
-    room a b l h e = omega arith
-
-    few : (a : ℕ) → a ≡ 0 → a ≤ most_open
-    few a e = omega arith
-
-    mark : (a b : ℕ) → b ≡ 0 → a ≡ a + b
-    mark a b e = omega arith
-
-    no_row : (r : ℕ) → r < 0 → ⊥
-    no_row r h = omega arith
-
-    zero_of : (a b : ℕ) → a ≤ b → b ≡ 0 → a ≡ 0
-    zero_of a b h e = omega arith
-
     blank_at : (c : ℕ) → n.places ≤ c → BlankPlace n free c
     blank_at c l = record {
-      no_free = zero_of (free c) (n.limit c) (fits c) (R.no_place c 0 l).2;
+      no_free = omega (arith, fits c, R.no_place c 0 l);
       no_take = λ t. (R.no_place c t l).0;
       no_give = λ t. (R.no_place c t l).1;
     }
@@ -174,9 +135,6 @@ good_set p rs h r here typed w ok is = record {
   shape = set_shape p h.shape.based r here typed w ok is (λ t. 0) (λ i. pos (pile_free p i)) rs h.steady h.shape;
 }
   where
-    off : (i g c : ℕ) → i < g → g ≤ c → i ≡ c → ⊥
-    off i g c h k e = omega arith
-
     same : pile_net (with_rule p r w) ≡ set_net (pile_net p) (row_place p r) w
     same = net_set p h.shape.based r here typed w ok is
 
@@ -185,7 +143,7 @@ good_set p rs h r here typed w ok is = record {
 
     tokens : (i : ℕ) → i < (pile_net (with_rule p r w)).ground_places → pos (pile_free (with_rule p r w) i) ≡ pos (pile_free p i)
     tokens i l = ap (λ (f : ℕ → ℕ). pos (f i)) (free_set p h.shape.based r here typed w ok is)
-        ∙ ap pos (pick_other i (row_place p r) (positive (w.bound -ℤ weighted_free (pile_net p) w.weight (pile_free p))) (pile_free p i) (off i (pile_net p).ground_places (row_place p r) (subst (λ (m : Net). i < m.ground_places) same l) low))
+        ∙ ap pos (pick_other i (row_place p r) (positive (w.bound -ℤ weighted_free (pile_net p) w.weight (pile_free p))) (pile_free p i) (λ e. omega (arith, subst (λ (m : Net). i < m.ground_places) same l, low)))
 
 pub board_says : (p : Pile) (r : ℕ) (typed : Rule) → board_answer p r typed ≡ Ok tt → (r < row_count p.top) × (top_answer p r typed ≡ Ok tt)
 board_says p r typed e =

@@ -1,9 +1,13 @@
 -- What an answer says: the lowest place that passes a test, and each check's Ok.
-use Rattle.std.proofs.Common.{◌≡◌, ℕ, zero, suc, ◌+◌, ◌-◌, ◌<◌, ◌≤◌, Bool, true, false, cond, T, ltb, ◌⊎◌, Some, None, Ok, Err, Option, sym, refl, ap, ◌∙◌, subst, ap₂, inl, inr, zero-le, arith, ltb-false, ltb-true, le-ltb, lt-ltb}
-use Rattle.model.specs.declared.refusal.Refusal.TheVariants.{NoMove, Controllable, Short, NoRoom, OverLimit}
+use Rattle.std.proofs.Common.{◌≡◌, ℕ, zero, suc, ◌+◌, ◌-◌, ◌<◌, ◌≤◌, Bool, true, false, cond, ltb, ◌⊎◌, Some, None, Ok, Err, Option, sym, refl, ap, ◌∙◌, subst, ap₂, inl, inr, zero-le, arith, ltb-false, ltb-true, le-ltb, lt-ltb}
+use Rattle.std.proofs.lemmas.Bool.{both_ways, cases_eq, cases_order}
+use Rattle.std.proofs.lemmas.Option.{none-some}
+use Rattle.model.specs.declared.refusal.Refusal.TheVariants.{NoMove, Uncontrollable, Controllable, TooManyOpen, Short, NoRoom, OverLimit}
 use Rattle.model.specs.declared.fault.Fault.{Fault}
+use Rattle.model.specs.Sizes.{most_open}
 use Rattle.model.specs.Net.{Net}
 use Rattle.model.specs.Plant.{Answer, accepted, lowest, fault_of, fault_at, refuse_at, refuse_unless, ◌else_by◌, known, short_place, over_place, begin_answer, begun, finish_answer, finished, back_answer, gone_back}
+use Rattle.model.specs.Ledger.{open_count, grant_checks}
 use Rattle.model.specs.Promise.{RefusedAt}
 
 -- ---- lowest
@@ -12,11 +16,7 @@ Tells f i n (Some p) = (f p ≡ true) × (i ≤ p) × (p < i + n) × ((j : ℕ) 
 Tells f i n None = (j : ℕ) → i ≤ j → j < i + n → f j ≡ false
 
 from_here : (f : ℕ → Bool) (i j : ℕ) → f i ≡ false → i ≤ j → (suc i ≤ j → f j ≡ false) → f j ≡ false
-from_here f i j e h k = go (ltb i j) refl
-  where
-    go : (b : Bool) → ltb i j ≡ b → f j ≡ false
-    go true t = k (ltb-true i j t)
-    go false t = let q : i ≡ j = omega (arith, ltb-false i j t) in subst (λ (x : ℕ). f x ≡ false) q e
+from_here f i j e h k = grind (arith, cases_eq i j)
 
 tells_later : (f : ℕ → Bool) (i n : ℕ) (o : Option ℕ) → f i ≡ false → Tells f (suc i) n o → Tells f i (suc n) o
 tells_later f i n (Some p) e h = (h.0, omega (arith, h.1), omega (arith, h.2), λ j a b. from_here f i j e a (λ c. h.3 j c b))
@@ -45,7 +45,7 @@ pub lowest_all_fail : (f : ℕ → Bool) (n : ℕ) → ((j : ℕ) → j < n → 
 lowest_all_fail f n h = go (lowest f 0 n) refl
   where
     go : (o : Option ℕ) → lowest f 0 n ≡ o → lowest f 0 n ≡ None
-    go (Some p) e = let k = lowest_some f n p e in let z : ◌≡◌ {A = Bool} true false = sym k.0 ∙ h p k.1 in absurd (subst T z tt)
+    go (Some p) e = let k = lowest_some f n p e in absurd (both_ways (f p) (h p k.1) k.0)
     go None e = e
 
 pub lowest_passes : (f : ℕ → Bool) (n j : ℕ) → j < n → f j ≡ true → (c : ℕ) × (lowest f 0 n ≡ Some c)
@@ -53,23 +53,22 @@ lowest_passes f n j l t = go (lowest f 0 n) refl
   where
     go : (o : Option ℕ) → lowest f 0 n ≡ o → (c : ℕ) × (lowest f 0 n ≡ Some c)
     go (Some p) e = (p, e)
-    go None e = let z : ◌≡◌ {A = Bool} true false = sym t ∙ lowest_none f n e j l in absurd (subst T z tt)
+    go None e = absurd (both_ways (f j) (lowest_none f n e j l) t)
 
 -- the lowest is the one that passes with none below it
 pub lowest_is : (f : ℕ → Bool) (n p : ℕ) → p < n → f p ≡ true → ((j : ℕ) → j < p → f j ≡ false) → lowest f 0 n ≡ Some p
 lowest_is f n p l e h = go (lowest f 0 n) refl
   where
     go : (o : Option ℕ) → lowest f 0 n ≡ o → lowest f 0 n ≡ Some p
-    go None k = absurd (subst T (sym e ∙ lowest_none f n k p l) tt)
-    go (Some c) k = k ∙ ap Some (same (ltb c p) (ltb p c) refl refl)
-      where
-        s : (f c ≡ true) × (c < n) × ((j : ℕ) → j < c → f j ≡ false)
-        s = lowest_some f n c k
-
-        same : (x y : Bool) → ltb c p ≡ x → ltb p c ≡ y → c ≡ p
-        same true y a b = absurd (subst T (sym s.0 ∙ h c (ltb-true c p a)) tt)
-        same false true a b = absurd (subst T (sym e ∙ s.2 p (ltb-true p c b)) tt)
-        same false false a b = omega (arith, ltb-false c p a, ltb-false p c b)
+    go None k = absurd (both_ways (f p) (lowest_none f n k p l) e)
+    go (Some c) k =
+        let s = lowest_some f n c k in
+        let q : c ≡ p = elim (cases_order c p) [
+          | inl q ↦ q
+          | inr (inl q) ↦ absurd (both_ways (f c) (h c q) s.0)
+          | inr (inr q) ↦ absurd (both_ways (f p) (s.2 p q) e)
+        ] in
+        k ∙ ap Some q
 
 pub lowest_ext : (f g : ℕ → Bool) (i n : ℕ) → ((j : ℕ) → i ≤ j → j < i + n → f j ≡ g j) → lowest f i n ≡ lowest g i n
 lowest_ext f g i zero h = refl
@@ -77,7 +76,7 @@ lowest_ext f g i (suc n) h = ap₂ (λ (b : Bool) (o : Option ℕ). cond b (Some
 
 -- ---- answers
 pub err_not_ok : (f : Fault) → ◌≡◌ {A = Answer} (Err f) (Ok tt) → ⊥
-err_not_ok f e = let z : ◌≡◌ {A = ℕ} 0 1 = cc in omega arith
+err_not_ok f e = grind arith
 
 pub else_ok : (a b : Answer) → (a else_by b) ≡ Ok tt → (a ≡ Ok tt) × (b ≡ Ok tt)
 else_ok (Ok u) b e = (refl, e)
@@ -113,16 +112,23 @@ begin_is n free t l = ok_else (known n t) (refuse_at (fault_at n Short t) (short
 pub begin_says : (n : Net) (free : ℕ → ℕ) (t : ℕ) → t < n.moves → begin_answer n free t ≡ Ok tt → (p : ℕ) → p < n.places → n.take p t ≤ free p
 begin_says n free t l e p k = ltb-false (free p) (n.take p t) (lowest_none (λ i. ltb (free i) (n.take i t)) n.places (refuse_at_ok (fault_at n Short t) (short_place n free t) (sym (begin_is n free t l) ∙ e)) p k)
 
-pub begin_ok : (n : Net) (free : ℕ → ℕ) (t : ℕ) → t < n.moves → ((p : ℕ) → p < n.places → n.take p t ≤ free p) → begin_answer n free t ≡ Ok tt
-begin_ok n free t l h = begin_is n free t l ∙ accepts_none (λ p. ltb (free p) (n.take p t)) n.places (fault_at n Short t) (λ p k. le-ltb (free p) (n.take p t) (h p k))
+-- no place goes over its limit by what a move brings: finish by what it gives, back by what it takes
+over_ok : (n : Net) (free : ℕ → ℕ) (t : ℕ) (more : ℕ → ℕ) → t < n.moves → ((p : ℕ) → p < n.places → free p + more p ≤ n.limit p) → (known n t else_by refuse_at (fault_at n OverLimit t) (over_place n free more)) ≡ Ok tt
+over_ok n free t more l h = ok_else (known n t) (refuse_at (fault_at n OverLimit t) (over_place n free more)) (known_ok n t l)
+    ∙ accepts_none (λ p. ltb (n.limit p) (free p + more p)) n.places (fault_at n OverLimit t) (λ p k. le-ltb (n.limit p) (free p + more p) (h p k))
 
 pub finish_ok : (n : Net) (free : ℕ → ℕ) (t : ℕ) → t < n.moves → ((p : ℕ) → p < n.places → free p + n.give p t ≤ n.limit p) → finish_answer n free t ≡ Ok tt
-finish_ok n free t l h = ok_else (known n t) (refuse_at (fault_at n OverLimit t) (over_place n free (λ p. n.give p t))) (known_ok n t l)
-    ∙ accepts_none (λ p. ltb (n.limit p) (free p + n.give p t)) n.places (fault_at n OverLimit t) (λ p k. le-ltb (n.limit p) (free p + n.give p t) (h p k))
+finish_ok n free t l h = over_ok n free t (λ p. n.give p t) l h
 
 pub back_ok : (n : Net) (free : ℕ → ℕ) (t : ℕ) → t < n.moves → ((p : ℕ) → p < n.places → free p + n.take p t ≤ n.limit p) → back_answer n free t ≡ Ok tt
-back_ok n free t l h = ok_else (known n t) (refuse_at (fault_at n OverLimit t) (over_place n free (λ p. n.take p t))) (known_ok n t l)
-    ∙ accepts_none (λ p. ltb (n.limit p) (free p + n.take p t)) n.places (fault_at n OverLimit t) (λ p k. le-ltb (n.limit p) (free p + n.take p t) (h p k))
+back_ok n free t l h = over_ok n free t (λ p. n.take p t) l h
+
+-- what a grant's first checks say
+pub checks_say : (n : Net) (g : ℕ → ℕ) (t : ℕ) → grant_checks n g t ≡ Ok tt → (t < n.moves) × (n.controllable t ≡ true) × (open_count n g < most_open)
+checks_say n g t e =
+    let k = else_ok (known n t) (refuse_unless (n.controllable t) (fault_of Uncontrollable t) else_by refuse_unless (ltb (open_count n g) most_open) (fault_of TooManyOpen t)) e in
+    let c = else_ok (refuse_unless (n.controllable t) (fault_of Uncontrollable t)) (refuse_unless (ltb (open_count n g) most_open) (fault_of TooManyOpen t)) k.1 in
+    (known_says n t k.0, refuse_unless_ok (n.controllable t) (fault_of Uncontrollable t) c.0, ltb-true (open_count n g) most_open (refuse_unless_ok (ltb (open_count n g) most_open) (fault_of TooManyOpen t) c.1))
 
 -- ---- the tokens after an accepted call
 pub begun_is : (n : Net) (free : ℕ → ℕ) (t : ℕ) → begin_answer n free t ≡ Ok tt → (p : ℕ) → begun n free t p ≡ free p - n.take p t
@@ -135,15 +141,12 @@ pub gone_back_is : (n : Net) (free : ℕ → ℕ) (t : ℕ) → back_answer n fr
 gone_back_is n free t e p = ap (λ a. cond (accepted a) (free p + n.take p t) (free p)) e
 
 -- ---- which check named a place
-pub nowhere : (c : ℕ) → ◌≡◌ {A = Option ℕ} None (Some c) → ⊥
-nowhere c e = let z : ◌≡◌ {A = ℕ} 0 1 = cc in omega arith
-
 pub names_cases : (n : Net) (t : ℕ) (a b : Option ℕ) (c : ℕ) → RefusedAt (refuse_at (fault_at n Short t) a else_by refuse_at (fault_at n NoRoom t) b) c → (a ≡ Some c) ⊎ (b ≡ Some c)
 names_cases n t (Some p) b c h = inl h
 names_cases n t None (Some p) c h = inr h
-names_cases n t None None c h = absurd (nowhere c h)
+names_cases n t None None c h = absurd (none-some c h)
 
 pub names_report : (t : ℕ) (a b : Bool) (x : Answer) (c : ℕ) → RefusedAt (refuse_unless a (fault_of NoMove t) else_by refuse_unless b (fault_of Controllable t) else_by x) c → (a ≡ true) × (b ≡ true) × RefusedAt x c
 names_report t true true x c h = (refl, refl, h)
-names_report t true false x c h = absurd (nowhere c h)
-names_report t false b x c h = absurd (nowhere c h)
+names_report t true false x c h = absurd (none-some c h)
+names_report t false b x c h = absurd (none-some c h)

@@ -1,96 +1,77 @@
 -- Exactly when a grant and a report are accepted, by the book.
-use Rattle.std.proofs.Common.{◌≡◌, ℕ, zero, suc, ◌+◌, ◌*◌, ◌<◌, ◌≤◌, max, Bool, true, false, not, ltb, ◌⊎◌, List, ℤ, pos, negsuc, ◌+ℤ◌, ◌-ℤ◌, ◌*ℤ◌, ◌≤ℤ◌, ◌<ℤ◌, Ok, sym, refl, ap, ◌∙◌, subst, inl, inr, arith, ltb-false, ltb-true, le-ltb}
-use borrow.Author.Tests.{not-true}
+use Rattle.std.proofs.Common.{◌≡◌, ℕ, zero, suc, ◌+◌, ◌*◌, ◌<◌, ◌≤◌, max, Bool, true, false, not, ltb, ◌⊎◌, List, ℤ, pos, ◌-ℤ◌, Ok, sym, refl, ap, ◌∙◌, subst, inl, inr, arith, ltb-false, ltb-true, le-ltb}
+use Rattle.std.proofs.lemmas.Bool.{cases_lt, false_from_ne_true, not-true}
 use borrow.Author.Differences.{ints}
-use Rattle.model.specs.declared.refusal.Refusal.TheVariants.{Uncontrollable, Controllable, TooManyOpen, Short, NoRoom}
-use Rattle.model.specs.Sizes.{most_open}
-use Rattle.model.specs.Net.{Net, sum, signed_sum, incidence}
+use Rattle.model.specs.declared.refusal.Refusal.TheVariants.{Controllable, Short, NoRoom}
+use Rattle.model.specs.Net.{Net, sum, incidence}
 use Rattle.model.specs.Plant.{fault_of, fault_at, refuse_at, refuse_unless, ◌else_by◌, known, short_place, begin_answer}
 use Rattle.model.specs.Rule.{positive}
 use Rattle.model.specs.Layer.{InForce, pile_net}
-use Rattle.model.specs.Ledger.{open_count, taken, reserved, crowded, crowded_place, room_answer, grant_checks, grant_answer, report_answer, net_under, free_under, new_ledger, run, answers}
+use Rattle.model.specs.Ledger.{reserved, crowded, crowded_place, room_answer, grant_checks, grant_answer, report_answer, net_under, free_under, new_ledger, run, answers}
 use Rattle.model.specs.Book.{Book, book_of, acceptances}
 use Rattle.model.specs.Promise.{Lets, MayAsk}
 use Rattle.model.specs.Laws.{Overfills, KeepsRules, HasRoom, GrantAccepted, GrantsExact, ReportAccepted, ReportsExact, BlankPlace, Ruled}
 use Rattle.model.proofs.Sums.{choice_most, wise, wise_le, wise_sum}
-use Rattle.model.proofs.Checks.{lowest_none, accepts_none, else_ok, ok_else, refuse_at_ok, refuse_unless_ok, known_ok, known_says, begin_is}
+use Rattle.model.proofs.Checks.{checks_say, lowest_none, accepts_none, else_ok, ok_else, refuse_at_ok, refuse_unless_ok, known_ok, known_says, begin_is}
 use Rattle.model.proofs.Steady.{Steady}
 use Rattle.model.proofs.Reading.{in_all, control_room, rule_keeps, rule_breaks, grant_is, may_ask}
 use Rattle.model.proofs.Running.{ready, by_book, room_says}
 
 max_is : (a b : ℕ) → positive (pos b -ℤ pos a) + a ≡ max a b
-max_is a b = go (pos b -ℤ pos a) refl
-  where
-    go : (z : ℤ) → pos b -ℤ pos a ≡ z → positive z + a ≡ max a b
-    go (pos n) e = omega (arith, ints)
-    go (negsuc n) e = omega (arith, ints)
+max_is a b = grind (arith, ints)
 
 reserved_is : (k : ℕ) (v a b : ℕ → ℕ) → sum k (λ u. v u * positive (pos (b u) -ℤ pos (a u))) + sum k (λ u. v u * a u) ≡ sum k (λ u. v u * max (a u) (b u))
 reserved_is zero v a b = refl
-reserved_is (suc k) v a b = step (sum k (λ u. v u * positive (pos (b u) -ℤ pos (a u)))) (sum k (λ u. v u * a u)) (sum k (λ u. v u * max (a u) (b u))) (v k) (positive (pos (b k) -ℤ pos (a k))) (a k) (max (a k) (b k)) (reserved_is k v a b) (max_is (a k) (b k))
-  where
-    step : (x y z w p a m : ℕ) → x + y ≡ z → p + a ≡ m → (x + w * p) + (y + w * a) ≡ z + w * m
-    step x y z w p a m e h = omega (arith, ap (λ i. w * i) h)
-
-no_over : (q s d : ℤ) (f a b h k x l : ℕ) → q ≡ pos (f + k) → s ≤ℤ pos x → x + k ≡ h → d ≡ pos b -ℤ pos a → f + max a b + h ≤ l + a → pos l <ℤ ((q +ℤ s) +ℤ d) → ⊥
-no_over q s d f a b h k x l e1 e2 e3 e4 e5 e6 = omega (arith, ints)
-
-is_over : (q s d : ℤ) (f a b h k x l : ℕ) → q ≡ pos (f + k) → s ≡ pos x → x + k ≡ h → d ≡ pos b -ℤ pos a → f + h ≤ l → l + a < f + max a b + h → pos l <ℤ ((q +ℤ s) +ℤ d)
-is_over q s d f a b h k x l e1 e2 e3 e4 e5 e6 = omega (arith, ints)
-
-unlet : (x : ℤ) (f a k : ℕ) → x ≡ pos (f + k) → (pos a +ℤ pos k) ≤ℤ x → a ≤ f
-unlet x f a k e h = omega (arith, ints)
-
-letting : (x : ℤ) (f a k : ℕ) → x ≡ pos (f + k) → a ≤ f → (pos a +ℤ pos k) ≤ℤ x
-letting x f a k e h = omega (arith, ints)
+reserved_is (suc k) v a b = omega (arith, reserved_is k v a b, ap (λ i. v k * i) (max_is (a k) (b k)))
 
 module _ (n : Net) (free g : ℕ → ℕ) (q : ℕ → ℤ) (rs : List InForce) (s : Steady n free g q rs) where
   abbrev b : Book
   b = record { q = q; v = g; rules = rs }
 
   room_fine : (t i : ℕ) → i < n.ground_places → free i + max (n.take i t) (n.give i t) + reserved n g i ≤ n.limit i + n.take i t → Overfills n b t i → ⊥
-  room_fine t i k h o = no_over (q i) (signed_sum n.moves (λ u. pos (o.choice u) *ℤ incidence n i u)) (incidence n i t) (free i) (n.take i t) (n.give i t) (reserved n g i) (taken n g i) (sum n.moves (λ u. g u * positive (incidence n i u))) (n.limit i)
-      (s.marked i k) (choice_most n.moves o.choice g (λ u. incidence n i u) o.within) (reserved_is n.moves g (λ u. n.take i u) (λ u. n.give i u)) refl h o.over
+  room_fine t i k h o = omega (
+    arith,
+    ints,
+    s.marked i k,
+    choice_most n.moves o.choice g (λ u. incidence n i u) o.within,
+    reserved_is n.moves g (λ u. n.take i u) (λ u. n.give i u),
+    h,
+    o.over,
+  )
 
   room_over : (t i : ℕ) → i < n.ground_places → n.limit i + n.take i t < free i + max (n.take i t) (n.give i t) + reserved n g i → Overfills n b t i
   room_over t i k h = record {
     choice = λ u. wise (incidence n i u) (g u);
     within = λ u. wise_le (incidence n i u) (g u);
-    over = is_over (q i) (signed_sum n.moves (λ u. pos (wise (incidence n i u) (g u)) *ℤ incidence n i u)) (incidence n i t) (free i) (n.take i t) (n.give i t) (reserved n g i) (taken n g i) (sum n.moves (λ u. g u * positive (incidence n i u))) (n.limit i)
-        (s.marked i k) (wise_sum n.moves g (λ u. incidence n i u)) (reserved_is n.moves g (λ u. n.take i u) (λ u. n.give i u)) refl (s.roomy i (in_all n free g q rs s i k)) h;
+    over = omega (
+      arith,
+      ints,
+      s.marked i k,
+      wise_sum n.moves g (λ u. incidence n i u),
+      reserved_is n.moves g (λ u. n.take i u) (λ u. n.give i u),
+      s.roomy i (in_all n free g q rs s i k),
+      h,
+    );
   }
-
-  split : (i : ℕ) (z : Bool) → ltb i n.ground_places ≡ z → (i < n.ground_places) ⊎ (n.ground_places ≤ i)
-  split i true e = inl (ltb-true i n.ground_places e)
-  split i false e = inr (ltb-false i n.ground_places e)
 
   -- ---- what the ground places and the rules allow, the places allow
   module _ (t : ℕ) (lets : Lets n b t) (keeps : KeepsRules n b t) (fits : HasRoom n b t) where
     enough_go : (c : ℕ) → BlankPlace n free c ⊎ Ruled rs c → (z : Bool) → ltb (free c) (n.take c t) ≡ z → ltb (free c) (n.take c t) ≡ false
-    enough_go c (inl d) z e = le-ltb (free c) (n.take c t) (none (free c) (n.take c t) (d.no_take t))
-      where
-        none : (a b : ℕ) → b ≡ 0 → b ≤ a
-        none a b e = omega arith
+    enough_go c (inl d) z e = le-ltb (free c) (n.take c t) (omega (arith, d.no_take t))
     enough_go c (inr d) true e = absurd (keeps d.rule d.stands (rule_breaks n free g q rs s d.rule t (s.rules d.rule d.stands) (subst (λ (x : ℕ). free x < n.take x t) (sym d.there) (ltb-true (free c) (n.take c t) e))))
     enough_go c (inr d) false e = e
 
     enough : (i : ℕ) → ltb (free i) (n.take i t) ≡ false
-    enough i = go (split i (ltb i n.ground_places) refl)
-      where
-        go : (i < n.ground_places) ⊎ (n.ground_places ≤ i) → ltb (free i) (n.take i t) ≡ false
-        go (inl k) = le-ltb (free i) (n.take i t) (unlet (q i) (free i) (n.take i t) (taken n g i) (s.marked i k) (lets i k))
-        go (inr k) = enough_go i (s.control i k) (ltb (free i) (n.take i t)) refl
+    enough i = elim (cases_lt i n.ground_places) [
+      | inl k ↦ le-ltb (free i) (n.take i t) (omega (arith, ints, s.marked i k, lets i k))
+      | inr k ↦ enough_go i (s.control i k) (ltb (free i) (n.take i t)) refl
+    ]
 
     roomed : (i : ℕ) → i < n.places → crowded n free g t i ≡ false
-    roomed i k = go (split i (ltb i n.ground_places) refl)
-      where
-        ground_go : i < n.ground_places → (z : Bool) → crowded n free g t i ≡ z → crowded n free g t i ≡ false
-        ground_go m true e = absurd (fits i m (room_over t i m (ltb-true (n.limit i + n.take i t) (free i + max (n.take i t) (n.give i t) + reserved n g i) e)))
-        ground_go m false e = e
-
-        go : (i < n.ground_places) ⊎ (n.ground_places ≤ i) → crowded n free g t i ≡ false
-        go (inl m) = ground_go m (crowded n free g t i) refl
-        go (inr m) = le-ltb (n.limit i + n.take i t) (free i + max (n.take i t) (n.give i t) + reserved n g i) (control_room n free g q rs s t i m k)
+    roomed i k = elim (cases_lt i n.ground_places) [
+      | inl m ↦ false_from_ne_true (crowded n free g t i) (λ e. fits i m (room_over t i m (ltb-true (n.limit i + n.take i t) (free i + max (n.take i t) (n.give i t) + reserved n g i) e)))
+      | inr m ↦ le-ltb (n.limit i + n.take i t) (free i + max (n.take i t) (n.give i t) + reserved n g i) (control_room n free g q rs s t i m k)
+    ]
 
     passes : (refuse_at (fault_at n Short t) (short_place n free t) else_by refuse_at (fault_at n NoRoom t) (crowded_place n free g t)) ≡ Ok tt
     passes = ok_else (refuse_at (fault_at n Short t) (short_place n free t)) (refuse_at (fault_at n NoRoom t) (crowded_place n free g t)) (accepts_none (λ i. ltb (free i) (n.take i t)) n.places (fault_at n Short t) (λ i k. enough i))
@@ -105,7 +86,7 @@ module _ (n : Net) (free g : ℕ → ℕ) (q : ℕ → ℤ) (rs : List InForce) 
     taking i k = ltb-false (free i) (n.take i t) (lowest_none (λ i. ltb (free i) (n.take i t)) n.places (refuse_at_ok (fault_at n Short t) (short_place n free t) asked.0) i k)
 
     lets_it : Lets n b t
-    lets_it i k = letting (q i) (free i) (n.take i t) (taken n g i) (s.marked i k) (taking i (in_all n free g q rs s i k))
+    lets_it i k = omega (arith, ints, s.marked i k, taking i (in_all n free g q rs s i k))
 
     keeps_them : KeepsRules n b t
     keeps_them r m h = rule_keeps n free g q rs s r t (s.rules r m) h (taking r.place (s.rules r m).high)
@@ -120,10 +101,8 @@ module _ (n : Net) (free g : ℕ → ℕ) (q : ℕ → ℤ) (rs : List InForce) 
   grant_only : (t : ℕ) → grant_answer n free g t ≡ Ok tt → MayAsk n b t × Lets n b t × KeepsRules n b t × HasRoom n b t
   grant_only t e =
       let e₁ = else_ok (grant_checks n g t) (begin_answer n free t else_by room_answer n free g t) e in
-      let e₂ = else_ok (known n t) (refuse_unless (n.controllable t) (fault_of Uncontrollable t) else_by refuse_unless (ltb (open_count n g) most_open) (fault_of TooManyOpen t)) e₁.0 in
-      let e₃ = else_ok (refuse_unless (n.controllable t) (fault_of Uncontrollable t)) (refuse_unless (ltb (open_count n g) most_open) (fault_of TooManyOpen t)) e₂.1 in
       let h = sym (grant_is n free g q rs s t e₁.0) ∙ e in (
-        (known_says n t e₂.0, refuse_unless_ok (n.controllable t) (fault_of Uncontrollable t) e₃.0, ltb-true (open_count n g) most_open (refuse_unless_ok (ltb (open_count n g) most_open) (fault_of TooManyOpen t) e₃.1)),
+        checks_say n g t e₁.0,
         lets_it t h,
         keeps_them t h,
         has_room t h,
@@ -136,10 +115,7 @@ module _ (n : Net) (free g : ℕ → ℕ) (q : ℕ → ℤ) (rs : List InForce) 
       ∙ ap (λ a. a else_by room_answer n free g t) (begin_is n free t k)
 
   no_break : (t : ℕ) → n.controllable t ≡ false → KeepsRules n b t
-  no_break t c r m h = rule_keeps n free g q rs s r t (s.rules r m) h (none (free r.place) (n.take r.place t) (s.ranges.control_free r.place t (s.rules r m).low c))
-    where
-      none : (a b : ℕ) → b ≡ 0 → b ≤ a
-      none a b e = omega arith
+  no_break t c r m h = rule_keeps n free g q rs s r t (s.rules r m) h (omega (arith, s.ranges.control_free r.place t (s.rules r m).low c))
 
   report_when : (t : ℕ) → t < n.moves → n.controllable t ≡ false → Lets n b t → HasRoom n b t → report_answer n free g t ≡ Ok tt
   report_when t k c lets fits = report_places t k c ∙ passes t lets (no_break t c) fits

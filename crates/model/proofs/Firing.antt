@@ -1,10 +1,11 @@
 -- The firing rule: when begin, finish and back are accepted, which place is named, and that they undo or add up.
-use Rattle.std.proofs.Common.{◌≡◌, ℕ, ◌+◌, ◌-◌, ◌<◌, ◌≤◌, Bool, true, false, ltb, pos, ◌+ℤ◌, ◌-ℤ◌, Ok, refl, ap, ◌∙◌, arith, ltb-true, le-ltb, lt-ltb}
+use Rattle.std.proofs.Common.{◌≡◌, ℕ, ◌+◌, ◌<◌, false, ltb, Ok, ap, ◌∙◌, arith, ltb-true, le-ltb, lt-ltb}
+use Rattle.std.proofs.lemmas.Bool.{false_from_ne_true}
 use borrow.Author.Differences.{ints}
 use Rattle.model.specs.declared.refusal.Refusal.{Refusal}
 use Rattle.model.specs.declared.refusal.Refusal.TheVariants.{NoMove, Short, OverLimit}
 use Rattle.model.specs.Net.{Net}
-use Rattle.model.specs.Plant.{Answer, lowest, fault_of, fault_at, refuse_at, refuse_unless, ◌else_by◌, known, begin_answer, begun, finished, back_answer}
+use Rattle.model.specs.Plant.{Answer, lowest, fault_of, fault_at, refuse_at, refuse_unless, ◌else_by◌, known, begin_answer, begun, back_answer}
 use Rattle.model.specs.Laws.{FiringRule, BeginFires, FinishFires, BackFires, BeginBack, BeginFinish}
 use Rattle.model.proofs.Checks.{lowest_is, accepts_none, ok_else, known_ok, known_says, else_ok, begin_says, back_ok, begun_is, finished_is, gone_back_is}
 
@@ -20,11 +21,7 @@ fires n t why has needs = record {
     found = refuse_at (fault_at n why t) (lowest (λ p. ltb (has p) (needs p)) 0 n.places)
 
     clear : (p : ℕ) → (has p < needs p → ⊥) → ltb (has p) (needs p) ≡ false
-    clear p h = go (ltb (has p) (needs p)) refl
-      where
-        go : (b : Bool) → ltb (has p) (needs p) ≡ b → ltb (has p) (needs p) ≡ false
-        go true e = absurd (h (ltb-true (has p) (needs p) e))
-        go false e = e
+    clear p h = false_from_ne_true (ltb (has p) (needs p)) (λ e. h (ltb-true (has p) (needs p) e))
 
 pub begin_fires : BeginFires
 begin_fires n free t = fires n t Short free (λ p. n.take p t)
@@ -41,20 +38,11 @@ began n free t e = known_says n t (else_ok (known n t) (refuse_at (fault_at n Sh
 pub begin_back : BeginBack
 begin_back n free t fits e = (accepted_back, λ p l. gone_back_is n (begun n free t) t accepted_back p ∙ there p l)
   where
-    whole : (x f a : ℕ) → x ≡ f - a → a ≤ f → x + a ≡ f
-    whole x f a e h = omega arith
-
     there : (p : ℕ) → p < n.places → begun n free t p + n.take p t ≡ free p
-    there p l = whole (begun n free t p) (free p) (n.take p t) (begun_is n free t e p) (begin_says n free t (began n free t e) e p l)
-
-    below : (x f l : ℕ) → x ≡ f → f ≤ l → x ≤ l
-    below x f l e h = omega arith
+    there p l = omega (arith, begun_is n free t e p, begin_says n free t (began n free t e) e p l)
 
     accepted_back : back_answer n (begun n free t) t ≡ Ok tt
-    accepted_back = back_ok n (begun n free t) t (began n free t e) (λ p l. below (begun n free t p + n.take p t) (free p) (n.limit p) (there p l) (fits p l))
+    accepted_back = back_ok n (begun n free t) t (began n free t e) (λ p l. omega (arith, there p l, fits p l))
 
 pub begin_finish : BeginFinish
-begin_finish n free t e k p l = moved (finished n (begun n free t) t p) (begun n free t p) (free p) (n.take p t) (n.give p t) (finished_is n (begun n free t) t k p) (begun_is n free t e p) (begin_says n free t (began n free t e) e p l)
-  where
-    moved : (y x f a b : ℕ) → y ≡ x + b → x ≡ f - a → a ≤ f → pos y ≡ pos f +ℤ (pos b -ℤ pos a)
-    moved y x f a b h k m = omega (arith, ints)
+begin_finish n free t e k p l = omega (arith, ints, finished_is n (begun n free t) t k p, begun_is n free t e p, begin_says n free t (began n free t e) e p l)

@@ -1,5 +1,5 @@
 -- A row just set: its arcs, its tokens, and that nothing else has changed.
-use Rattle.std.proofs.Common.{◌≡◌, ℕ, ◌⊎◌, ℤ, pos, negsuc, ◌+ℤ◌, ◌-ℤ◌, neg_ℤ, ◌≤ℤ◌, refl, ap, ◌∙◌, inl, inr, arith}
+use Rattle.std.proofs.Common.{◌≡◌, ℕ, ◌⊎◌, ℤ, pos, negsuc, ◌+ℤ◌, ◌-ℤ◌, neg_ℤ, ◌≤ℤ◌, ap, ◌∙◌, inl, inr, arith}
 use borrow.Author.Differences.{ints}
 use Rattle.model.specs.Net.{Net}
 use Rattle.model.specs.Rule.{raise, positive, negative, weighted_free}
@@ -8,20 +8,15 @@ use Rattle.model.specs.Laws.{SetRow}
 use Rattle.model.proofs.Setting.{pick_same, pick_other, set_net, set_free}
 use Rattle.model.proofs.TopRow.{net_set, free_set, fits_now}
 
-flip : (z : ℤ) (a b : ℕ) → a ≡ positive z → b ≡ negative z → pos b -ℤ pos a ≡ neg_ℤ z
-flip (pos n) a b e k = omega (arith, ints)
-flip (negsuc n) a b e k = omega (arith, ints)
+pub flip : (z : ℤ) (a b : ℕ) → a ≡ positive z → b ≡ negative z → pos b -ℤ pos a ≡ neg_ℤ z
+flip z a b e k = grind (arith, ints)
 
 half : (z : ℤ) (a b : ℕ) → a ≡ positive z → b ≡ negative z → (a ≡ 0) ⊎ (b ≡ 0)
 half (pos n) a b e k = inr k
 half (negsuc n) a b e k = inl e
 
 whole : (b x : ℤ) → x ≤ℤ b → x +ℤ pos (positive (b -ℤ x)) ≡ b
-whole b x h = go (b -ℤ x) refl
-  where
-    go : (d : ℤ) → b -ℤ x ≡ d → x +ℤ pos (positive d) ≡ b
-    go (pos n) e = omega (arith, ints)
-    go (negsuc n) e = absurd (omega (arith, ints))
+whole b x h = grind (arith, ints)
 
 pub set_row : SetRow
 set_row p R r here typed w ok is = record {

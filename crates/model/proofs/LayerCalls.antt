@@ -1,6 +1,7 @@
 -- A layer's calls: as below if refused below, else by its own rows; and the numbers of new rows.
-use Rattle.std.proofs.Common.{◌≡◌, ℕ, zero, suc, ◌+◌, ◌-◌, ◌<◌, ◌≤◌, max, Bool, true, false, cond, ltb, Some, Ok, Err, sym, refl, ap, ◌∙◌, subst, ap₂, arith, ltb-false, ltb-true}
+use Rattle.std.proofs.Common.{◌≡◌, ℕ, zero, suc, ◌+◌, ◌-◌, ◌<◌, ◌≤◌, Bool, true, false, cond, ltb, Some, Ok, Err, sym, refl, ap, ◌∙◌, subst, ap₂, arith}
 use mathlib.Core.Path.{fun_ext}
+use Rattle.std.proofs.lemmas.Bool.{cond_both, cases_eq}
 use Rattle.model.specs.declared.refusal.Refusal.{Refusal}
 use Rattle.model.specs.declared.refusal.Refusal.TheVariants.{Short, OverLimit}
 use Rattle.model.specs.declared.fault.Fault.{Fault}
@@ -44,10 +45,7 @@ module _ (size : ℕ) (n : Net) where
   below_is x y p l = ap (λ b. cond b (x (p - n.places)) (y p)) (not_own n.places size p l)
 
   own_is : (x y : ℕ → ℕ) (r : ℕ) → r < size → cond (own_place size n (n.places + r)) (x ((n.places + r) - n.places)) (y (n.places + r)) ≡ x r
-  own_is x y r l = ap (λ b. cond b (x ((n.places + r) - n.places)) (y (n.places + r))) (own_row n.places size r l) ∙ ap x (away n.places r)
-    where
-      away : (a r : ℕ) → (a + r) - a ≡ r
-      away a r = omega arith
+  own_is x y r l = ap (λ b. cond b (x ((n.places + r) - n.places)) (y (n.places + r))) (own_row n.places size r l) ∙ ap x (omega arith)
 
   module _ (rows : ℕ → Row) (why : Refusal) (t : ℕ) where
     fault_below : (p : ℕ) → p < n.places → fault_at (open_net size n rows) why t p ≡ fault_at n why t p
@@ -65,15 +63,9 @@ module _ (size : ℕ) (n : Net) where
     call_is f g h below own = ap (λ a. known n t else_by a)
         (split f 0 n.places n.places size (fault_at (open_net size n rows) why t) (omega arith)
         ∙ ap₂ (λ a b. a else_by b)
-        (shifted f g (fault_at (open_net size n rows) why t) (fault_at n why t) 0 0 0 n.places refl (λ r l m. ap f (plus r) ∙ below r (in_it n.places r m)) (λ r l m. ap (fault_at (open_net size n rows) why t) (plus r) ∙ fault_below r (in_it n.places r m)))
-        (shifted f h (fault_at (open_net size n rows) why t) (row_fault n why t) n.places 0 n.places size (omega arith) (λ r l m. own r (in_it size r m)) (λ r l m. fault_own r (in_it size r m))))
+        (shifted f g (fault_at (open_net size n rows) why t) (fault_at n why t) 0 0 0 n.places refl (λ r l m. ap f (omega arith) ∙ below r (omega arith)) (λ r l m. ap (fault_at (open_net size n rows) why t) (omega arith) ∙ fault_below r (omega arith)))
+        (shifted f h (fault_at (open_net size n rows) why t) (row_fault n why t) n.places 0 n.places size (omega arith) (λ r l m. own r (omega arith)) (λ r l m. fault_own r (omega arith))))
         ∙ regroup (known n t) (refuse_at (fault_at n why t) (lowest g 0 n.places)) (refuse_at (row_fault n why t) (lowest h 0 size))
-      where
-        plus : (r : ℕ) → 0 + r ≡ r
-        plus r = omega arith
-
-        in_it : (k r : ℕ) → r < 0 + k → r < k
-        in_it k r h = omega arith
 
 module _ (size : ℕ) (n : Net) (free : ℕ → ℕ) (rows : ℕ → Row) (t : ℕ) where
   abbrev m : Net
@@ -160,21 +152,13 @@ new_rows size n free k e l = subst (λ (m : Net). FreshRow n m (layer_free size 
       row_is = own_is size n (λ r. r) n.row k l;
       layer_is = own_is size n (λ r. next_layer n.places n.layer) n.layer k l;
       limit_is = own_is size n (λ r. control_limit) n.limit k l;
-      no_arcs = λ t. (own_is size n (λ r. masked_take n blank t) (λ p. n.take p t) k l ∙ none (n.controllable t), own_is size n (λ r. masked_give n blank t) (λ p. n.give p t) k l ∙ none (ltb t n.moves));
+      no_arcs = λ t. (own_is size n (λ r. masked_take n blank t) (λ p. n.take p t) k l ∙ cond_both (n.controllable t) 0 0 (λ x. x ≡ 0) (λ e. refl) (λ e. refl), own_is size n (λ r. masked_give n blank t) (λ p. n.give p t) k l ∙ cond_both (ltb t n.moves) 0 0 (λ x. x ≡ 0) (λ e. refl) (λ e. refl));
       no_free = own_is size n (λ r. 0) free k l;
     }))
-  where
-    none : (b : Bool) → ◌≡◌ {A = ℕ} (cond b 0 0) 0
-    none true = refl
-    none false = refl
 
 over_each : (k : ℕ) (layer : ℕ → ℕ) (i : ℕ) → i < k → layer i < next_layer k layer
 over_each zero layer i l = absurd (omega arith)
-over_each (suc k) layer i l = go (ltb i k) refl (λ m. over_each k layer i m)
-  where
-    go : (b : Bool) → ltb i k ≡ b → (i < k → layer i < next_layer k layer) → layer i < max (next_layer k layer) (layer k + 1)
-    go true e h = omega (arith, h (ltb-true i k e))
-    go false e h = let q : i ≡ k = omega (arith, ltb-false i k e) in subst (λ (j : ℕ). layer i < max (next_layer k layer) (layer j + 1)) q (omega arith)
+over_each (suc k) layer i l = grind (arith, over_each k layer i, cases_eq i k)
 
 at_most : (k : ℕ) (layer : ℕ → ℕ) (m : ℕ) → 1 ≤ m → ((i : ℕ) → i < k → layer i < m) → next_layer k layer ≤ m
 at_most zero layer m l h = l

@@ -1,11 +1,11 @@
 -- The calls that move tokens keep the invariant.
-use Rattle.std.proofs.Common.{◌≡◌, ℕ, suc, ◌+◌, ◌-◌, ◌*◌, ◌<◌, ◌≤◌, max, cond, ◌⊎◌, List, ℤ, pos, negsuc, ◌+ℤ◌, ◌-ℤ◌, sym, refl, ap, ◌∙◌, subst, inl, inr, arith, eq-eqb, ne_eqb}
+use Rattle.std.proofs.Common.{◌≡◌, ℕ, suc, ◌+◌, ◌-◌, ◌*◌, ◌<◌, ◌≤◌, max, cond, ◌⊎◌, List, ℤ, pos, ◌+ℤ◌, ◌-ℤ◌, sym, refl, ap, ◌∙◌, inl, inr, arith, eq-eqb, ne_eqb}
 use borrow.Author.Differences.{ints}
 use Rattle.model.specs.Net.{Net, sum, incidence}
 use Rattle.model.specs.Rule.{weighted, raise, positive, negative}
 use Rattle.model.specs.Layer.{InForce}
 use Rattle.model.specs.Sizes.{most_open}
-use Rattle.model.specs.Ledger.{taken, reserved, plus_one, minus_one}
+use Rattle.model.specs.Ledger.{reserved, plus_one, minus_one}
 use Rattle.model.specs.Laws.{BlankPlace, Ruled}
 use Rattle.model.proofs.Sums.{sum_one, signed_sum_add}
 use Rattle.model.proofs.Steady.{held_open, Stands, Steady}
@@ -29,10 +29,7 @@ sum_plus k t g h l = sum_one k t (h t) (λ u. g u * h u) (λ u. plus_one g t u *
 
 pub sum_minus : (k t : ℕ) (g h : ℕ → ℕ) → t < k → 0 < g t → sum k (λ u. g u * h u) ≡ sum k (λ u. minus_one g t u * h u) + h t
 sum_minus k t g h l o = sum_one k t (h t) (λ u. minus_one g t u * h u) (λ u. g u * h u) l
-    (λ u d. ap (λ x. x * h u) (sym (minus_other g t u d))) (more (g t) (minus_one g t t) (h t) o (minus_same g t))
-  where
-    more : (a b c : ℕ) → 0 < a → b ≡ a - 1 → a * c ≡ b * c + c
-    more a b c o e = let f : a ≡ suc b = omega arith in ap (λ x. x * c) f ∙ omega arith
+    (λ u d. ap (λ x. x * h u) (sym (minus_other g t u d))) (let f : g t ≡ suc (minus_one g t t) = omega (arith, minus_same g t) in omega (arith, ap (λ x. x * h t) f))
 
 pub count_plus : (k t : ℕ) (g : ℕ → ℕ) → t < k → sum k (plus_one g t) ≡ sum k g + 1
 count_plus k t g l = sum_one k t 1 g (plus_one g t) l (plus_other g t) (plus_same g t)
@@ -57,20 +54,7 @@ blank_by n free free' rs c f (inr r) = inr r
 
 -- ---- arithmetic of one rule's sum
 pub raise_is : (r : ℤ) → r ≡ pos (positive r) -ℤ pos (negative r)
-raise_is (pos a) = omega (arith, ints)
-raise_is (negsuc a) = omega (arith, ints)
-
-grant_sum : (x b : ℤ) (f f' s s' p : ℕ) → (x +ℤ pos f) +ℤ pos s ≡ b → p ≤ f → f' ≡ f - p → s' ≡ s + p → (x +ℤ pos f') +ℤ pos s' ≡ b
-grant_sum x b f f' s s' p h l e k = omega (arith, ints)
-
-cancel_sum : (x b : ℤ) (f f' s s' p : ℕ) → (x +ℤ pos f) +ℤ pos s ≡ b → f' ≡ f + p → s ≡ s' + p → (x +ℤ pos f') +ℤ pos s' ≡ b
-cancel_sum x b f f' s s' p h e k = omega (arith, ints)
-
-commit_sum : (x x' b r : ℤ) (f f' s s' p m : ℕ) → (x +ℤ pos f) +ℤ pos s ≡ b → x' ≡ x +ℤ r → r ≡ pos p -ℤ pos m → f' ≡ f + m → s ≡ s' + p → (x' +ℤ pos f') +ℤ pos s' ≡ b
-commit_sum x x' b r f f' s s' p m h a c e k = omega (arith, ints)
-
-report_sum : (x x' b r : ℤ) (f f' s p m : ℕ) → (x +ℤ pos f) +ℤ pos s ≡ b → x' ≡ x +ℤ r → r ≡ pos p -ℤ pos m → p ≤ f → f' ≡ f - p + m → (x' +ℤ pos f') +ℤ pos s ≡ b
-report_sum x x' b r f f' s p m h a c l e = omega (arith, ints)
+raise_is r = grind (arith, ints)
 
 -- ---- the calls
 abbrev pub after : Net → (ℕ → ℤ) → ℕ → ℕ → ℤ
@@ -84,113 +68,69 @@ module _ (n : Net) (free g : ℕ → ℕ) (q : ℕ → ℤ) (rs : List InForce) 
       ((p : ℕ) → p < n.places → free p + max (n.take p t) (n.give p t) + reserved n g p ≤ n.limit p + n.take p t) → Steady n free' (plus_one g t) q rs
   granted free' e enough not_full room = record {
     ranges = s.ranges;
-    roomy = λ p l. grant_room (free p) (free' p) (n.take p t) (max (n.take p t) (n.give p t)) (reserved n g p) (reserved n (plus_one g t) p) (n.limit p) (e p) (enough p l) (sum_plus n.moves t g (λ u. max (n.take p u) (n.give p u)) known) (room p l);
-    few = few_more (sum n.moves g) (sum n.moves (plus_one g t)) not_full (count_plus n.moves t g known);
+    roomy = λ p l. omega (arith, e p, enough p l, sum_plus n.moves t g (λ u. max (n.take p u) (n.give p u)) known, room p l);
+    few = omega (arith, not_full, count_plus n.moves t g known);
     beyond = beyond_plus n.moves t g known s.beyond;
-    marked = λ p l. s.marked p l ∙ ap pos (grant_mark (free p) (free' p) (n.take p t) (taken n g p) (taken n (plus_one g t) p) (e p) (enough p (in_all p l)) (sum_plus n.moves t g (λ u. n.take p u) known));
+    marked = λ p l. s.marked p l ∙ ap pos (omega (arith, e p, enough p (omega (arith, s.ranges.places_all)), sum_plus n.moves t g (λ u. n.take p u) known));
     rules = λ r m. rule r (s.rules r m);
-    control = λ c l. blank_by n free free' rs c (λ b. e c ∙ none (free c) (n.take c t) b.no_free) (s.control c l);
+    control = λ c l. blank_by n free free' rs c (λ b. omega (arith, e c, b.no_free)) (s.control c l);
   }
     where
-      grant_room : (f f' a x h h' l : ℕ) → f' ≡ f - a → a ≤ f → h' ≡ h + x → f + x + h ≤ l + a → f' + h' ≤ l
-      grant_room f f' a x h h' l e m k r = omega arith
-
-      few_more : (a b : ℕ) → a < most_open → b ≡ a + 1 → b ≤ most_open
-      few_more a b h e = omega arith
-
-      grant_mark : (f f' a h h' : ℕ) → f' ≡ f - a → a ≤ f → h' ≡ h + a → f + h ≡ f' + h'
-      grant_mark f f' a h h' e l k = omega arith
-
-      none : (f a : ℕ) → f ≡ 0 → f - a ≡ 0
-      none f a e = omega arith
-
-      in_all : (p : ℕ) → p < n.ground_places → p < n.places
-      in_all p l = omega (arith, s.ranges.places_all)
-
       rule : (r : InForce) → Stands n free g q r → Stands n free' (plus_one g t) q r
       rule r k = stands_by n free g free' (plus_one g t) q q r k
-          (grant_sum (weighted n r.worked.weight q) r.worked.bound (free r.place) (free' r.place) (held_open n g r.worked.weight) (held_open n (plus_one g t) r.worked.weight) (n.take r.place t)
-          k.adds_up (enough r.place k.high) (e r.place) (sum_plus n.moves t g (λ u. positive (raise n r.worked.weight u)) known ∙ ap (λ x. held_open n g r.worked.weight + x) (sym (k.takes t))))
+          (omega (arith, ints, k.adds_up, enough r.place k.high, e r.place, sum_plus n.moves t g (λ u. positive (raise n r.worked.weight u)) known, k.takes t))
 
   pub cancelled : (free' : ℕ → ℕ) → ((p : ℕ) → free' p ≡ free p + n.take p t) → 0 < g t → Steady n free' (minus_one g t) q rs
   cancelled free' e open_one = record {
     ranges = s.ranges;
-    roomy = λ p l. room (free p) (free' p) (n.take p t) (n.give p t) (reserved n g p) (reserved n (minus_one g t) p) (n.limit p) (e p) (sum_minus n.moves t g (λ u. max (n.take p u) (n.give p u)) known open_one) (s.roomy p l);
+    roomy = λ p l. omega (arith, e p, sum_minus n.moves t g (λ u. max (n.take p u) (n.give p u)) known open_one, s.roomy p l);
     few = omega (arith, count_minus n.moves t g known open_one, s.few);
     beyond = beyond_minus n.moves t g known s.beyond;
-    marked = λ p l. s.marked p l ∙ ap pos (mark (free p) (free' p) (n.take p t) (taken n g p) (taken n (minus_one g t) p) (e p) (sum_minus n.moves t g (λ u. n.take p u) known open_one));
+    marked = λ p l. s.marked p l ∙ ap pos (omega (arith, e p, sum_minus n.moves t g (λ u. n.take p u) known open_one));
     rules = λ r m. rule r (s.rules r m);
-    control = λ c l. blank_by n free free' rs c (λ b. e c ∙ none (free c) (n.take c t) b.no_free (b.no_take t)) (s.control c l);
+    control = λ c l. blank_by n free free' rs c (λ b. omega (arith, e c, b.no_free, b.no_take t)) (s.control c l);
   }
     where
-      room : (f f' a b h h' l : ℕ) → f' ≡ f + a → h ≡ h' + max a b → f + h ≤ l → f' + h' ≤ l
-      room f f' a b h h' l e k r = omega arith
-
-      mark : (f f' a h h' : ℕ) → f' ≡ f + a → h ≡ h' + a → f + h ≡ f' + h'
-      mark f f' a h h' e k = omega arith
-
-      none : (f a : ℕ) → f ≡ 0 → a ≡ 0 → f + a ≡ 0
-      none f a e k = omega arith
-
       rule : (r : InForce) → Stands n free g q r → Stands n free' (minus_one g t) q r
       rule r k = stands_by n free g free' (minus_one g t) q q r k
-          (cancel_sum (weighted n r.worked.weight q) r.worked.bound (free r.place) (free' r.place) (held_open n g r.worked.weight) (held_open n (minus_one g t) r.worked.weight) (n.take r.place t)
-          k.adds_up (e r.place) (sum_minus n.moves t g (λ u. positive (raise n r.worked.weight u)) known open_one ∙ ap (λ x. held_open n (minus_one g t) r.worked.weight + x) (sym (k.takes t))))
+          (omega (arith, ints, k.adds_up, e r.place, sum_minus n.moves t g (λ u. positive (raise n r.worked.weight u)) known open_one, k.takes t))
 
   pub committed : (free' : ℕ → ℕ) → ((p : ℕ) → free' p ≡ free p + n.give p t) → 0 < g t → Steady n free' (minus_one g t) (after n q t) rs
   committed free' e open_one = record {
     ranges = s.ranges;
-    roomy = λ p l. room (free p) (free' p) (n.take p t) (n.give p t) (reserved n g p) (reserved n (minus_one g t) p) (n.limit p) (e p) (sum_minus n.moves t g (λ u. max (n.take p u) (n.give p u)) known open_one) (s.roomy p l);
+    roomy = λ p l. omega (arith, e p, sum_minus n.moves t g (λ u. max (n.take p u) (n.give p u)) known open_one, s.roomy p l);
     few = omega (arith, count_minus n.moves t g known open_one, s.few);
     beyond = beyond_minus n.moves t g known s.beyond;
-    marked = λ p l. mark (q p) (free p) (free' p) (n.take p t) (n.give p t) (taken n g p) (taken n (minus_one g t) p) (s.marked p l) (e p) (sum_minus n.moves t g (λ u. n.take p u) known open_one);
+    marked = λ p l. omega (arith, ints, s.marked p l, e p, sum_minus n.moves t g (λ u. n.take p u) known open_one);
     rules = λ r m. rule r (s.rules r m);
-    control = λ c l. blank_by n free free' rs c (λ b. e c ∙ none (free c) (n.give c t) b.no_free (b.no_give t)) (s.control c l);
+    control = λ c l. blank_by n free free' rs c (λ b. omega (arith, e c, b.no_free, b.no_give t)) (s.control c l);
   }
     where
-      room : (f f' a b h h' l : ℕ) → f' ≡ f + b → h ≡ h' + max a b → f + h ≤ l → f' + h' ≤ l
-      room f f' a b h h' l e k r = omega arith
-
-      mark : (x : ℤ) (f f' a b h h' : ℕ) → x ≡ pos (f + h) → f' ≡ f + b → h ≡ h' + a → x +ℤ (pos b -ℤ pos a) ≡ pos (f' + h')
-      mark x f f' a b h h' z e k = omega (arith, ints)
-
-      none : (f a : ℕ) → f ≡ 0 → a ≡ 0 → f + a ≡ 0
-      none f a e k = omega arith
-
       rule : (r : InForce) → Stands n free g q r → Stands n free' (minus_one g t) (after n q t) r
       rule r k = stands_by n free g free' (minus_one g t) q (after n q t) r k
-          (commit_sum (weighted n r.worked.weight q) (weighted n r.worked.weight (after n q t)) r.worked.bound (raise n r.worked.weight t) (free r.place) (free' r.place) (held_open n g r.worked.weight) (held_open n (minus_one g t) r.worked.weight) (positive (raise n r.worked.weight t)) (negative (raise n r.worked.weight t))
-          k.adds_up (after_weighted n r.worked.weight q t) (raise_is (raise n r.worked.weight t)) (e r.place ∙ ap (λ x. free r.place + x) (k.gives t)) (sum_minus n.moves t g (λ u. positive (raise n r.worked.weight u)) known open_one))
+          (omega (
+            arith,
+            ints,
+            k.adds_up,
+            after_weighted n r.worked.weight q t,
+            raise_is (raise n r.worked.weight t),
+            e r.place,
+            k.gives t,
+            sum_minus n.moves t g (λ u. positive (raise n r.worked.weight u)) known open_one,
+          ))
 
   pub reported : (free' : ℕ → ℕ) → ((p : ℕ) → free' p ≡ free p - n.take p t + n.give p t) → ((p : ℕ) → p < n.places → n.take p t ≤ free p) →
       ((p : ℕ) → p < n.places → free p + max (n.take p t) (n.give p t) + reserved n g p ≤ n.limit p + n.take p t) → Steady n free' g (after n q t) rs
   reported free' e enough room = record {
     ranges = s.ranges;
-    roomy = λ p l. fits (free p) (free' p) (n.take p t) (n.give p t) (reserved n g p) (n.limit p) (e p) (enough p l) (room p l);
+    roomy = λ p l. omega (arith, e p, enough p l, room p l);
     few = s.few;
     beyond = s.beyond;
-    marked = λ p l. mark (q p) (free p) (free' p) (n.take p t) (n.give p t) (taken n g p) (s.marked p l) (e p) (enough p (in_all p l));
+    marked = λ p l. omega (arith, ints, s.marked p l, e p, enough p (omega (arith, s.ranges.places_all)));
     rules = λ r m. rule r (s.rules r m);
-    control = λ c l. blank_by n free free' rs c (λ b. e c ∙ none (free c) (n.take c t) (n.give c t) b.no_free (b.no_give t)) (s.control c l);
+    control = λ c l. blank_by n free free' rs c (λ b. omega (arith, e c, b.no_free, b.no_give t)) (s.control c l);
   }
     where
-      fits : (f f' a b h l : ℕ) → f' ≡ f - a + b → a ≤ f → f + max a b + h ≤ l + a → f' + h ≤ l
-      fits f f' a b h l e m r = omega arith
-
-      mark : (x : ℤ) (f f' a b h : ℕ) → x ≡ pos (f + h) → f' ≡ f - a + b → a ≤ f → x +ℤ (pos b -ℤ pos a) ≡ pos (f' + h)
-      mark x f f' a b h z e k = omega (arith, ints)
-
-      none : (f a b : ℕ) → f ≡ 0 → b ≡ 0 → f - a + b ≡ 0
-      none f a b e k = omega arith
-
-      in_all : (p : ℕ) → p < n.ground_places → p < n.places
-      in_all p l = omega (arith, s.ranges.places_all)
-
       rule : (r : InForce) → Stands n free g q r → Stands n free' g (after n q t) r
       rule r k = stands_by n free g free' g q (after n q t) r k
-          (report_sum (weighted n r.worked.weight q) (weighted n r.worked.weight (after n q t)) r.worked.bound (raise n r.worked.weight t) (free r.place) (free' r.place) (held_open n g r.worked.weight) (positive (raise n r.worked.weight t)) (negative (raise n r.worked.weight t))
-          k.adds_up (after_weighted n r.worked.weight q t) (raise_is (raise n r.worked.weight t)) (subst (λ (x : ℕ). x ≤ free r.place) (k.takes t) (enough r.place k.high))
-          (e r.place ∙ swap (free r.place) (n.take r.place t) (n.give r.place t) (positive (raise n r.worked.weight t)) (negative (raise n r.worked.weight t)) (k.takes t) (k.gives t)))
-        where
-          swap : (f a b a' b' : ℕ) → a ≡ a' → b ≡ b' → f - a + b ≡ f - a' + b'
-          swap f a b a' b' x y = omega arith
+          (omega (arith, ints, k.adds_up, after_weighted n r.worked.weight q t, raise_is (raise n r.worked.weight t), enough r.place k.high, e r.place, k.takes t, k.gives t))

@@ -1,18 +1,17 @@
 -- A setting, and a new layer, keep the invariant.
-use Rattle.std.proofs.Common.{◌≡◌, ℕ, ◌+◌, ◌*◌, ◌<◌, ◌≤◌, max, Bool, true, false, eqb, ◌⊎◌, List, ◌∷◌, ℤ, pos, negsuc, ◌+ℤ◌, ◌-ℤ◌, ◌*ℤ◌, nat_abs, ◌≤ℤ◌, Ok, sym, refl, ap, ◌∙◌, subst, inl, inr, le_trans, arith, eqb-true}
+use Rattle.std.proofs.Common.{◌≡◌, ℕ, ◌*◌, ◌<◌, ◌≤◌, max, Bool, true, false, eqb, ◌⊎◌, List, ◌∷◌, ℤ, pos, ◌+ℤ◌, ◌-ℤ◌, ◌*ℤ◌, ◌≤ℤ◌, Ok, sym, refl, ap, ◌∙◌, subst, inl, inr, le_trans, arith, eqb-true}
 use mathlib.Core.List.Memᴰ
 use mathlib.Core.List.{Memᴰ}
 use borrow.Author.Tests.{eqb-false}
 use borrow.Author.Differences.{ints}
 use Rattle.model.specs.Net.{Net, sum}
-use Rattle.model.specs.Sizes.{most_limit, most_worked_bound, control_limit}
+use Rattle.model.specs.Sizes.{most_limit, control_limit}
 use Rattle.model.specs.Rule.{Rule, Worked, raise, positive, negative, weighted, weighted_free}
 use Rattle.model.specs.Working.{work}
 use Rattle.model.specs.Layer.{InForce}
-use Rattle.model.specs.Ledger.{taken, reserved}
 use Rattle.model.specs.Laws.{Derived, BlankPlace, Ruled}
 use Rattle.model.proofs.Sums.{sum_none, signed_sum_ext}
-use Rattle.model.proofs.Setting.{pick, pick_same, pick_other, positive_le, most_weighted, weighted_abs, set_net, set_free, set_raise, set_same, set_ranges}
+use Rattle.model.proofs.Setting.{pick, pick_same, pick_other, positive_le, weighted_abs, set_net, set_free, set_raise, set_same, set_ranges}
 use Rattle.model.proofs.Working.{work_on_ground, work_derives, work_quiets}
 use Rattle.model.proofs.Steady.{held_open, Stands, Steady}
 
@@ -38,34 +37,18 @@ other_book n free g q q' rs e s = record {
       working = k.working;
     }
 
-row_small : (x b : ℤ) (v : ℕ) → v ≤ nat_abs (b -ℤ x) → nat_abs b ≤ most_worked_bound → nat_abs x ≤ most_weighted → v ≤ control_limit
-row_small x b v h k m = le_trans h (diff b x k m)
-  where
-    diff : (b x : ℤ) → nat_abs b ≤ most_worked_bound → nat_abs x ≤ most_weighted → nat_abs (b -ℤ x) ≤ control_limit
-    diff b x k m = omega (arith, ints)
-
 row_sum : (x b d : ℤ) (v f h : ℕ) → d ≡ b -ℤ x → v ≡ positive d → x ≤ℤ b → f ≡ v → h ≡ 0 → (x +ℤ pos f) +ℤ pos h ≡ b
-row_sum x b (pos d) v f h e k j l m = omega (arith, ints)
-row_sum x b (negsuc d) v f h e k j l m = absurd (omega (arith, ints))
-
-same_sum : (x b : ℤ) (f f' h h' : ℕ) → (x +ℤ pos f) +ℤ pos h ≡ b → f' ≡ f → h ≡ 0 → h' ≡ 0 → (x +ℤ pos f') +ℤ pos h' ≡ b
-same_sum x b f f' h h' e k l m = omega (arith, ints)
+row_sum x b d v f h e k j l m = grind (arith, ints)
 
 module _ (n : Net) (free g : ℕ → ℕ) (q : ℕ → ℤ) (rs : List InForce) (s : Steady n free g q rs) (z : (t : ℕ) → g t ≡ 0) where
   none : (h : ℕ → ℕ) → sum n.moves (λ u. g u * h u) ≡ 0
   none h = sum_none n.moves g h (λ i l. z i)
 
   free_is : (p : ℕ) → p < n.ground_places → q p ≡ pos (free p)
-  free_is p l = s.marked p l ∙ ap pos (plain (free p) (taken n g p) (none (n.take p)))
-    where
-      plain : (a b : ℕ) → b ≡ 0 → a + b ≡ a
-      plain a b e = omega arith
+  free_is p l = omega (arith, ints, s.marked p l, none (n.take p))
 
   free_fits : (p : ℕ) → p < n.places → free p ≤ n.limit p
-  free_fits p l = part (free p) (reserved n g p) (n.limit p) (s.roomy p l)
-    where
-      part : (a b c : ℕ) → a + b ≤ c → a ≤ c
-      part a b c h = omega arith
+  free_fits p l = omega (arith, s.roomy p l)
 
   free_small : (p : ℕ) → p < n.ground_places → free p ≤ most_limit
   free_small p l = le_trans (free_fits p (omega (arith, s.ranges.places_all))) (s.ranges.ground_limit p l).1
@@ -84,8 +67,7 @@ module _ (n : Net) (free g : ℕ → ℕ) (q : ℕ → ℤ) (rs : List InForce) 
     still_works r = work_on_ground n (set_net n c w) (set_same n c w low) r
 
     row_bounded : positive (w.bound -ℤ weighted_free n w.weight free) ≤ control_limit
-    row_bounded = row_small (weighted_free n w.weight free) w.bound (positive (w.bound -ℤ weighted_free n w.weight free)) (positive_le (w.bound -ℤ weighted_free n w.weight free)) derived.bound_in
-        (weighted_abs n w.weight (λ p. pos (free p)) s.ranges derived.weights_in free_small)
+    row_bounded = omega (arith, ints, positive_le (w.bound -ℤ weighted_free n w.weight free), derived.bound_in, weighted_abs n w.weight (λ p. pos (free p)) s.ranges derived.weights_in free_small)
 
     new_stands : Stands (set_net n c w) (set_free n free c w) g q (record { place = c; typed = typed; worked = w })
     new_stands = record {
@@ -107,9 +89,14 @@ module _ (n : Net) (free g : ℕ → ℕ) (q : ℕ → ℤ) (rs : List InForce) 
       high = k.high;
       takes = λ t. pick_other r.place c (positive (raise n w.weight t)) (n.take r.place t) d ∙ k.takes t ∙ ap positive (sym (set_raise n c w low r.worked.weight t));
       gives = λ t. pick_other r.place c (negative (raise n w.weight t)) (n.give r.place t) d ∙ k.gives t ∙ ap negative (sym (set_raise n c w low r.worked.weight t));
-      adds_up = same_sum (weighted n r.worked.weight q) r.worked.bound (free r.place) (set_free n free c w r.place) (held_open n g r.worked.weight) (held_open (set_net n c w) g r.worked.weight)
-          k.adds_up (pick_other r.place c (positive (w.bound -ℤ weighted_free n w.weight free)) (free r.place) d)
-          (none (λ t. positive (raise n r.worked.weight t))) (none (λ t. positive (raise (set_net n c w) r.worked.weight t)));
+      adds_up = omega (
+        arith,
+        ints,
+        k.adds_up,
+        pick_other r.place c (positive (w.bound -ℤ weighted_free n w.weight free)) (free r.place) d,
+        none (λ t. positive (raise n r.worked.weight t)),
+        none (λ t. positive (raise (set_net n c w) r.worked.weight t)),
+      );
       working = still_works r.typed ∙ k.working;
     }
 
@@ -137,16 +124,10 @@ module _ (n : Net) (free g : ℕ → ℕ) (q : ℕ → ℤ) (rs : List InForce) 
     pub placed : Steady (set_net n c w) (set_free n free c w) g q (record { place = c; typed = typed; worked = w } ∷ rs)
     placed = record {
       ranges = set_ranges n c w low s.ranges high derived.weights_in (work_quiets n typed w is);
-      roomy = λ p l. room (set_free n free c w p) (reserved (set_net n c w) g p) (n.limit p) (none (λ u. max ((set_net n c w).take p u) ((set_net n c w).give p u))) (new_room p l);
+      roomy = λ p l. omega (arith, none (λ u. max ((set_net n c w).take p u) ((set_net n c w).give p u)), new_room p l);
       few = s.few;
       beyond = s.beyond;
-      marked = λ p l. free_is p l ∙ ap pos (mark (free p) (set_free n free c w p) (taken (set_net n c w) g p) (pick_other p c (positive (w.bound -ℤ weighted_free n w.weight free)) (free p) (λ e. omega arith)) (none ((set_net n c w).take p)));
+      marked = λ p l. free_is p l ∙ ap pos (omega (arith, pick_other p c (positive (w.bound -ℤ weighted_free n w.weight free)) (free p) (λ e. omega arith), none ((set_net n c w).take p)));
       rules = λ r m. new_rules r (Memᴰ.cases_cons m);
       control = λ i l. new_control i (eqb i c) refl (s.control i l);
     }
-      where
-        room : (a b l : ℕ) → b ≡ 0 → a ≤ l → a + b ≤ l
-        room a b l e h = omega arith
-
-        mark : (a a' b : ℕ) → a' ≡ a → b ≡ 0 → a ≡ a' + b
-        mark a a' b e k = omega arith

@@ -1,6 +1,7 @@
 -- What is promised, read off the invariant.
-use Rattle.std.proofs.Common.{◌≡◌, ℕ, ◌+◌, ◌*◌, ◌<◌, ◌≤◌, max, Bool, true, false, not, ltb, ◌⊎◌, List, ℤ, pos, negsuc, ◌+ℤ◌, ◌*ℤ◌, nat_abs, ◌≤ℤ◌, ◌<ℤ◌, Some, Ok, sym, refl, ap, ◌∙◌, subst, inl, inr, le_trans, mul-le-mul_right, mul-le-mul_left, arith, lit≤, ltb-false, ltb-true, lt-ltb}
+use Rattle.std.proofs.Common.{◌≡◌, ℕ, ◌+◌, ◌*◌, ◌<◌, ◌≤◌, max, true, false, not, ltb, ◌⊎◌, List, ℤ, pos, ◌+ℤ◌, ◌*ℤ◌, nat_abs, ◌≤ℤ◌, ◌<ℤ◌, Some, Ok, sym, refl, ap, ◌∙◌, subst, inl, inr, le_trans, mul-le-mul_right, mul-le-mul_left, arith, lit≤, ltb-false, ltb-true, lt-ltb}
 use mathlib.Core.List.{Memᴰ}
+use Rattle.std.proofs.lemmas.Bool.{cases_lt}
 use native.Mathlib.Nat.{le-max_left, max-le}
 use borrow.Author.Tests.{not-true}
 use borrow.Author.Differences.{ints}
@@ -15,31 +16,20 @@ use Rattle.model.specs.Book.{Book}
 use Rattle.model.specs.Promise.{RefusedAt, MayAsk, Lets, Breaks, LowestBroken, Upheld}
 use Rattle.model.specs.Laws.{Derived, BlankPlace, Ruled}
 use Rattle.model.proofs.Sums.{sum_le, sum_below, le_sum, choice_most, wise, wise_le, wise_sum, scaled, unscale}
-use Rattle.model.proofs.Checks.{lowest_some, lowest_passes, else_ok, ok_else, passes_if, known_ok, known_says, begin_is, finish_ok, back_ok, names_cases, names_report}
+use Rattle.model.proofs.Checks.{checks_say, lowest_some, lowest_passes, ok_else, passes_if, known_ok, begin_is, finish_ok, back_ok, names_cases, names_report}
 use Rattle.model.proofs.Setting.{most_weighted, weighted_abs}
 use Rattle.model.proofs.Steady.{held_open, Stands, stands_derived, Steady}
 
 -- ---- arithmetic
 break_sum : (x b y r : ℤ) (f h : ℕ) → (x +ℤ pos f) +ℤ pos h ≡ b → y ≡ pos h → f < positive r → b <ℤ ((x +ℤ y) +ℤ r)
-break_sum x b y (pos a) f h e k l = omega (arith, ints)
-break_sum x b y (negsuc a) f h e k l = absurd (omega arith)
+break_sum x b y r f h e k l = grind (arith, ints)
 
 keep_sum : (x b y r : ℤ) (f h : ℕ) → (x +ℤ pos f) +ℤ pos h ≡ b → y ≤ℤ pos h → positive r ≤ f → b <ℤ ((x +ℤ y) +ℤ r) → ⊥
-keep_sum x b y (pos a) f h e k l m = omega (arith, ints)
-keep_sum x b y (negsuc a) f h e k l m = omega (arith, ints)
-
-below_bound : (x b : ℤ) (f h : ℕ) → (x +ℤ pos f) +ℤ pos h ≡ b → x ≤ℤ b
-below_bound x b f h e = omega (arith, ints)
+keep_sum x b y r f h e k l m = grind (arith, ints)
 
 -- the most tokens of a row that adds up to its bound
 abbrev pub most_row : ℕ
 most_row = most_worked_bound + most_weighted
-
-row_low : (x b : ℤ) (f h : ℕ) → (x +ℤ pos f) +ℤ pos h ≡ b → nat_abs b ≤ most_worked_bound → nat_abs x ≤ most_weighted → f ≤ most_row
-row_low x b f h e k m = omega (arith, ints)
-
-pub leq_trans : (a b c : ℤ) → a ≤ℤ b → b ≤ℤ c → a ≤ℤ c
-leq_trans a b c h k = omega (arith, ints)
 
 module _ (n : Net) (free g : ℕ → ℕ) (q : ℕ → ℤ) (rs : List InForce) (s : Steady n free g q rs) where
   -- ---- sizes
@@ -47,22 +37,16 @@ module _ (n : Net) (free g : ℕ → ℕ) (q : ℕ → ℤ) (rs : List InForce) 
   in_all p l = le_trans l s.ranges.places_all
 
   mark_small : (p : ℕ) → p < n.ground_places → free p + taken n g p ≤ most_limit
-  mark_small p l = go (free p) (taken n g p) (reserved n g p) (n.limit p) (sum_le n.moves (λ u. g u * n.take p u) (λ u. g u * max (n.take p u) (n.give p u)) (λ u k. mul-le-mul_left (g u) (le-max_left (n.take p u) (n.give p u)))) (s.roomy p (in_all p l)) (s.ranges.ground_limit p l).1
-    where
-      go : (f a b l : ℕ) → a ≤ b → f + b ≤ l → l ≤ most_limit → f + a ≤ most_limit
-      go f a b l h k m = omega arith
+  mark_small p l = omega (arith, sum_le n.moves (λ u. g u * n.take p u) (λ u. g u * max (n.take p u) (n.give p u)) (λ u k. mul-le-mul_left (g u) (le-max_left (n.take p u) (n.give p u))), s.roomy p (in_all p l), s.ranges.ground_limit p l)
 
   book_small : (p : ℕ) → p < n.ground_places → nat_abs (q p) ≤ most_limit
   book_small p l = subst (λ (x : ℤ). nat_abs x ≤ most_limit) (sym (s.marked p l)) (mark_small p l)
 
   stands_small : (r : InForce) → Stands n free g q r → free r.place ≤ most_row
-  stands_small r k = row_low (weighted n r.worked.weight q) r.worked.bound (free r.place) (held_open n g r.worked.weight) k.adds_up (stands_derived n free g q r k).bound_in (weighted_abs n r.worked.weight q s.ranges (stands_derived n free g q r k).weights_in book_small)
+  stands_small r k = omega (arith, ints, k.adds_up, (stands_derived n free g q r k).bound_in, weighted_abs n r.worked.weight q s.ranges (stands_derived n free g q r k).weights_in book_small)
 
   control_small : (c : ℕ) → BlankPlace n free c ⊎ Ruled rs c → free c ≤ most_row
-  control_small c (inl b) = zero_small (free c) b.no_free
-    where
-      zero_small : (a : ℕ) → a ≡ 0 → a ≤ most_row
-      zero_small a e = omega arith
+  control_small c (inl b) = omega (arith, b.no_free)
   control_small c (inr r) = subst (λ (x : ℕ). free x ≤ most_row) r.there (stands_small r.rule (s.rules r.rule r.stands))
 
   max_small : (c u : ℕ) → n.ground_places ≤ c → max (n.take c u) (n.give c u) ≤ most_control_arc
@@ -73,39 +57,22 @@ module _ (n : Net) (free g : ℕ → ℕ) (q : ℕ → ℤ) (rs : List InForce) 
 
   -- a control place always has room: its limit is beyond what a row, a move and all open grants can bring together
   pub control_room : (t c : ℕ) → n.ground_places ≤ c → c < n.places → free c + max (n.take c t) (n.give c t) + reserved n g c ≤ n.limit c + n.take c t
-  control_room t c l k = subst (λ (x : ℕ). free c + max (n.take c t) (n.give c t) + reserved n g c ≤ x + n.take c t) (sym (s.ranges.control_limited c l k))
-      (go (free c) (n.take c t) (max (n.take c t) (n.give c t)) (reserved n g c) (control_small c (s.control c l)) (max_small c t l) (held_small c l))
+  control_room t c l k = omega (arith, enough, control_small c (s.control c l), max_small c t l, held_small c l, s.ranges.control_limited c l k)
     where
       enough : most_row + most_control_arc + most_open * most_control_arc ≤ control_limit
       enough = lit≤ tt
 
-      go : (f a m h : ℕ) → f ≤ most_row → m ≤ most_control_arc → h ≤ most_open * most_control_arc → f + m + h ≤ control_limit + a
-      go f a m h x y z = omega (arith, enough)
-
   pub no_room_fault : (t c : ℕ) → n.ground_places ≤ c → crowded_place n free g t ≡ Some c → ⊥
   no_room_fault t c l e =
       let h = lowest_some (crowded n free g t) n.places c e in
-      over (n.limit c + n.take c t) (free c + max (n.take c t) (n.give c t) + reserved n g c) h.0 (control_room t c l h.1)
-    where
-      over : (a b : ℕ) → ltb a b ≡ true → b ≤ a → ⊥
-      over a b e k = omega (arith, ltb-true a b e)
+      omega (arith, ltb-true (n.limit c + n.take c t) (free c + max (n.take c t) (n.give c t) + reserved n g c) h.0, control_room t c l h.1)
 
   -- ---- an open grant
   open_known : (t : ℕ) → 0 < g t → t < n.moves
-  open_known t o = go (ltb t n.moves) refl
-    where
-      go : (b : Bool) → ltb t n.moves ≡ b → t < n.moves
-      go true e = ltb-true t n.moves e
-      go false e = absurd (none (g t) (s.beyond t (ltb-false t n.moves e)) o)
-        where
-          none : (a : ℕ) → a ≡ 0 → 0 < a → ⊥
-          none a e k = omega arith
+  open_known t o = elim (cases_lt t n.moves) [ inl l ↦ l | inr l ↦ absurd (omega (arith, s.beyond t l)) ]
 
   open_room : (t : ℕ) → 0 < g t → (p : ℕ) → p < n.places → free p + max (n.take p t) (n.give p t) ≤ n.limit p
-  open_room t o p l = go (free p) (max (n.take p t) (n.give p t)) (g t) (reserved n g p) (n.limit p) o (le_sum n.moves (λ u. g u * max (n.take p u) (n.give p u)) t (open_known t o)) (s.roomy p l)
-    where
-      go : (f m k h l : ℕ) → 0 < k → k * m ≤ h → f + h ≤ l → f + m ≤ l
-      go f m k h l o a b = omega (arith, mul-le-mul_right m o)
+  open_room t o p l = omega (arith, le_sum n.moves (λ u. g u * max (n.take p u) (n.give p u)) t (open_known t o), s.roomy p l, mul-le-mul_right (max (n.take p t) (n.give p t)) o)
 
   -- ---- a rule and a move
   pub rule_breaks : (r : InForce) (t : ℕ) → Stands n free g q r → free r.place < n.take r.place t → Breaks n (record { q = q; v = g; rules = rs }) t r
@@ -129,23 +96,13 @@ module _ (n : Net) (free g : ℕ → ℕ) (q : ℕ → ℤ) (rs : List InForce) 
     short_lower p l = ltb-false (free p) (n.take p t) ((lowest_some (λ p. ltb (free p) (n.take p t)) n.places c e).2 p l)
 
     short_lets : Lets n (record { q = q; v = g; rules = rs }) t
-    short_lets p l = go (q p) (free p) (n.take p t) (taken n g p) (s.marked p l) (short_lower p (le_trans l low))
-      where
-        go : (x : ℤ) (f a h : ℕ) → x ≡ pos (f + h) → a ≤ f → (pos a +ℤ pos h) ≤ℤ x
-        go x f a h e k = omega (arith, ints)
+    short_lets p l = omega (arith, ints, s.marked p l, short_lower p (le_trans l low))
 
     none_lower : (r : InForce) → Memᴰ r rs → Breaks n (record { q = q; v = g; rules = rs }) t r → c ≤ r.place
-    none_lower r m b = go (ltb r.place c) refl
-      where
-        go : (z : Bool) → ltb r.place c ≡ z → c ≤ r.place
-        go true k = absurd (rule_keeps r t (s.rules r m) b (short_lower r.place (ltb-true r.place c k)))
-        go false k = ltb-false r.place c k
+    none_lower r m b = elim (cases_lt r.place c) [ inl l ↦ absurd (rule_keeps r t (s.rules r m) b (short_lower r.place l)) | inr l ↦ l ]
 
     short_lowest : BlankPlace n free c ⊎ Ruled rs c → LowestBroken n (record { q = q; v = g; rules = rs }) t c
-    short_lowest (inl b) = absurd (nothing (free c) (n.take c t) short_at (b.no_take t))
-      where
-        nothing : (a b : ℕ) → a < b → b ≡ 0 → ⊥
-        nothing a b h k = omega arith
+    short_lowest (inl b) = absurd (omega (arith, short_at, b.no_take t))
     short_lowest (inr r) = record {
       rule = r.rule;
       stands = r.stands;
@@ -156,41 +113,27 @@ module _ (n : Net) (free g : ℕ → ℕ) (q : ℕ → ℤ) (rs : List InForce) 
 
   -- a place that some rule's break shows to be short
   pub breaks_short : (t : ℕ) (r : InForce) → Stands n free g q r → Breaks n (record { q = q; v = g; rules = rs }) t r → ltb (free r.place) (n.take r.place t) ≡ true
-  breaks_short t r k b = go (ltb (free r.place) (n.take r.place t)) refl
-    where
-      go : (z : Bool) → ltb (free r.place) (n.take r.place t) ≡ z → ltb (free r.place) (n.take r.place t) ≡ true
-      go true e = e
-      go false e = absurd (rule_keeps r t k b (ltb-false (free r.place) (n.take r.place t) e))
+  breaks_short t r k b = elim (cases_lt (free r.place) (n.take r.place t)) [ inl l ↦ lt-ltb (free r.place) (n.take r.place t) l | inr l ↦ absurd (rule_keeps r t k b l) ]
 
   pub lets_low : (t c : ℕ) → Lets n (record { q = q; v = g; rules = rs }) t → ltb (free c) (n.take c t) ≡ true → n.ground_places ≤ c
-  lets_low t c h e = go (ltb c n.ground_places) refl
-    where
-      clash : (x : ℤ) (f a k : ℕ) → x ≡ pos (f + k) → (pos a +ℤ pos k) ≤ℤ x → f < a → ⊥
-      clash x f a k e h l = omega (arith, ints)
-
-      go : (z : Bool) → ltb c n.ground_places ≡ z → n.ground_places ≤ c
-      go true k = absurd (clash (q c) (free c) (n.take c t) (taken n g c) (s.marked c (ltb-true c n.ground_places k)) (h c (ltb-true c n.ground_places k)) (ltb-true (free c) (n.take c t) e))
-      go false k = ltb-false c n.ground_places k
+  lets_low t c h e = elim (cases_lt c n.ground_places) [
+    | inl k ↦ absurd (omega (arith, ints, s.marked c k, h c k, ltb-true (free c) (n.take c t) e))
+    | inr k ↦ k
+  ]
 
   -- ---- sums
   pub typed_holds : (r : InForce) → Stands n free g q r → weighted n r.typed.weight q ≤ℤ r.typed.bound
   typed_holds r k = let d : Derived n.ground_places r.typed r.worked = stands_derived n free g q r k in
       unscale d.factor (weighted n r.typed.weight q) r.typed.bound d.factor_some
-      (subst (λ (x : ℤ). (pos d.factor *ℤ weighted n r.typed.weight q) ≤ℤ x) d.blend_bound
-      (leq_trans (pos d.factor *ℤ weighted n r.typed.weight q) (weighted n r.worked.weight q) r.worked.bound
-      (scaled n.ground_places d.factor r.worked.weight d.rest r.typed.weight q (λ i. free i + taken n g i) d.rest_low d.blend s.marked)
-      (below_bound (weighted n r.worked.weight q) r.worked.bound (free r.place) (held_open n g r.worked.weight) k.adds_up)))
+      (omega (arith, ints, d.blend_bound, scaled n.ground_places d.factor r.worked.weight d.rest r.typed.weight q (λ i. free i + taken n g i) d.rest_low d.blend s.marked, k.adds_up))
 
   -- ---- grants
   abbrev b : Book
   b = record { q = q; v = g; rules = rs }
 
-  pub checks_known : (t : ℕ) → grant_checks n g t ≡ Ok tt → t < n.moves
-  checks_known t e = known_says n t (else_ok (known n t) (refuse_unless (n.controllable t) (fault_of Uncontrollable t) else_by refuse_unless (ltb (open_count n g) most_open) (fault_of TooManyOpen t)) e).0
-
   pub grant_is : (t : ℕ) → grant_checks n g t ≡ Ok tt → grant_answer n free g t ≡ (refuse_at (fault_at n Short t) (short_place n free t) else_by refuse_at (fault_at n NoRoom t) (crowded_place n free g t))
   grant_is t e = ok_else (grant_checks n g t) (begin_answer n free t else_by room_answer n free g t) e
-      ∙ ap (λ a. a else_by room_answer n free g t) (begin_is n free t (checks_known t e))
+      ∙ ap (λ a. a else_by room_answer n free g t) (begin_is n free t (checks_say n g t e).0)
 
   pub may_ask : (t : ℕ) → MayAsk n b t → grant_checks n g t ≡ Ok tt
   may_ask t m = ok_else (known n t) (refuse_unless (n.controllable t) (fault_of Uncontrollable t) else_by refuse_unless (ltb (open_count n g) most_open) (fault_of TooManyOpen t)) (known_ok n t m.0)
@@ -220,11 +163,8 @@ module _ (n : Net) (free g : ℕ → ℕ) (q : ℕ → ℤ) (rs : List InForce) 
   reported : (t c : ℕ) → n.ground_places ≤ c → RefusedAt (report_answer n free g t) c → ⊥
   reported t c low h = go (names_report t (ltb t n.moves) (not (n.controllable t)) (begin_answer n free t else_by room_answer n free g t) c h)
     where
-      none : (a b : ℕ) → b ≡ 0 → ltb a b ≡ true → ⊥
-      none a b e k = omega (arith, ltb-true a b k)
-
       fault : n.controllable t ≡ false → (short_place n free t ≡ Some c) ⊎ (crowded_place n free g t ≡ Some c) → ⊥
-      fault u (inl k) = none (free c) (n.take c t) (s.ranges.control_free c t low u) (lowest_some (λ i. ltb (free i) (n.take i t)) n.places c k).0
+      fault u (inl k) = omega (arith, s.ranges.control_free c t low u, ltb-true (free c) (n.take c t) (lowest_some (λ i. ltb (free i) (n.take i t)) n.places c k).0)
       fault u (inr k) = no_room_fault t c low k
 
       go : (ltb t n.moves ≡ true) × (not (n.controllable t) ≡ true) × RefusedAt (begin_answer n free t else_by room_answer n free g t) c → ⊥
@@ -236,16 +176,10 @@ module _ (n : Net) (free g : ℕ → ℕ) (q : ℕ → ℤ) (rs : List InForce) 
       ∙ ok_else (is_open g t) x (passes_if (ltb 0 (g t)) (fault_of NotOpen t) (lt-ltb 0 (g t) o)) ∙ e
 
   committed : (t : ℕ) → 0 < g t → commit_answer n free g t ≡ Ok tt
-  committed t o = opens t o (finish_answer n free t) (finish_ok n free t (open_known t o) (λ i k. less (free i) (n.take i t) (n.give i t) (n.limit i) (open_room t o i k)))
-    where
-      less : (f a b l : ℕ) → f + max a b ≤ l → f + b ≤ l
-      less f a b l h = omega arith
+  committed t o = opens t o (finish_answer n free t) (finish_ok n free t (open_known t o) (λ i k. omega (arith, open_room t o i k)))
 
   cancelled : (t : ℕ) → 0 < g t → cancel_answer n free g t ≡ Ok tt
-  cancelled t o = opens t o (back_answer n free t) (back_ok n free t (open_known t o) (λ i k. less (free i) (n.take i t) (n.give i t) (n.limit i) (open_room t o i k)))
-    where
-      less : (f a b l : ℕ) → f + max a b ≤ l → f + a ≤ l
-      less f a b l h = omega arith
+  cancelled t o = opens t o (back_answer n free t) (back_ok n free t (open_known t o) (λ i k. omega (arith, open_room t o i k)))
 
 pub upheld : (l : Ledger) (q : ℕ → ℤ) (rs : List InForce) → Steady (net_under l) (free_under l) l.opened q rs → Upheld l (record { q = q; v = l.opened; rules = rs })
 upheld l q rs s = record {

@@ -1,22 +1,24 @@
 -- What the answers of working mean: every one is a chain of rounds.
-use Rattle.std.proofs.Common.{◌≡◌, ℕ, zero, suc, ◌+◌, ◌-◌, ◌*◌, ◌/◌, ◌%◌, ◌<◌, ◌≤◌, Bool, true, false, cond, not, ◌&&◌, ◌||◌, T, eqb, ltb, leb, ℤ, pos, negsuc, ◌+ℤ◌, ◌-ℤ◌, ◌*ℤ◌, neg_ℤ, nat_abs, ◌≤ℤ◌, Some, None, Ok, Err, Option, Result, sym, refl, ap, ◌∙◌, subst, ap₂, inl, inr, zero-le, mul_comm, arith, ltb-false, ltb-true, le-ltb, lt-ltb, eq-eqb, ne_eqb, eqb-true, le-leb}
+use Rattle.std.proofs.Common.{◌≡◌, ℕ, zero, suc, ◌-◌, ◌*◌, ◌/◌, ◌%◌, ◌<◌, ◌≤◌, Bool, true, false, cond, not, ◌&&◌, ◌||◌, eqb, ltb, leb, ℤ, pos, ◌+ℤ◌, ◌-ℤ◌, ◌*ℤ◌, neg_ℤ, nat_abs, Some, None, Ok, Err, Option, Result, refl, ap, ◌∙◌, subst, ap₂, inl, inr, zero-le, mul_comm, arith, ltb-false, ltb-true, lt-ltb, eq-eqb, ne_eqb, eqb-true, le-leb}
 use Prim.Native.Nat.{◌∣◌}
-use native.Mathlib.Nat.{mod-add-div, mod-eq-zero_of_dvd, dvd_of_mod-eq-zero, mul-div_cancel'}
+use native.Mathlib.Nat.{le_of_dvd, mod-eq-zero_of_dvd, dvd_of_mod-eq-zero, mul-div_cancel'}
+use Rattle.std.proofs.Math.IntN.{+ℤ_idr}
+use Rattle.std.proofs.lemmas.Bool.{and_parts, cases_eq}
 use lib.Signed.{lt_z}
 use borrow.Author.Tests.{eqb-false, not-true, both_ways}
-use borrow.Author.Differences.{ints, up, down, same_in, sum_is_lem, product_is, neg_is}
+use borrow.Author.Differences.{ints, product_is, neg_is}
 use Rattle.model.specs.declared.refusal.Refusal.TheVariants.{NotTyped, TooLarge}
 use Rattle.model.specs.declared.fault.Fault.{Fault}
 use Rattle.model.specs.Sizes.{most_all_places, most_weight, most_bound, most_worked_weight, most_worked_bound, most_rounds}
 use Rattle.model.specs.Net.{Net, signed_sum, incidence}
 use Rattle.model.specs.Plant.{lowest, setting_fault}
-use Rattle.model.specs.Rule.{Rule, Worked, raise, positive, in_range, all_below}
+use Rattle.model.specs.Rule.{Rule, Worked, raise, positive, in_range}
 use Rattle.model.specs.Working.{divisor, rising, falls, changed, fits, at_place, at_move, at_end, rounds_from, ground_only, is_typed, unchanged}
 use Rattle.model.specs.Rounds.{CanBeTyped, Small, Gcd, LowestRising, Round, none, more, Quiet, WorkedOut, RoundsSay, WorkSays}
 use Rattle.model.specs.Laws.{WorkingSays, IsRound, DivisorGcd}
-use Rattle.model.proofs.Sums.{distrib, distrib_right}
+use Rattle.model.proofs.Sums.{distrib, distrib_right, assoc}
 use Rattle.model.proofs.Checks.{lowest_some, lowest_none}
-use Rattle.model.proofs.Working.{and_true, all_below_says, range_weights, range_bound}
+use Rattle.model.proofs.Working.{all_below_decides, all_below_says, range_weights, range_bound, not_rising}
 
 -- ---- the greatest common divisor
 record Scan (k a e h : ℕ) : Type 0 where
@@ -26,15 +28,9 @@ record Scan (k a e h : ℕ) : Type 0 where
   most : (d : ℕ) → d ∣ a → d ∣ e → d ≤ k → d ≤ h
 
 scan : (k a e : ℕ) → Scan k a e (divisor k a e)
-scan zero a e = record { some = omega arith; of_a = one a; of_e = one e; most = λ d x y l. omega arith }
-  where
-    one : (a : ℕ) → 1 * (a / 1) ≡ a
-    one a = mul-div_cancel' 1 (dvd_of_mod-eq-zero 1 (omega (arith, mod-add-div a 1)))
+scan zero a e = record { some = omega arith; of_a = omega arith; of_e = omega arith; most = λ d x y l. omega arith }
 scan (suc k) a e = go (eqb (a % suc k) 0) (eqb (e % suc k) 0) refl refl (scan k a e)
   where
-    less : (d k h : ℕ) → d ≤ suc k → (d ≡ suc k → ⊥) → (d ≤ k → d ≤ h) → d ≤ h
-    less d k h l n f = f (omega arith)
-
     go : (x y : Bool) → eqb (a % suc k) 0 ≡ x → eqb (e % suc k) 0 ≡ y → Scan k a e (divisor k a e) → Scan (suc k) a e (cond (x && y) (suc k) (divisor k a e))
     go true true p q s = record {
       some = omega arith;
@@ -42,92 +38,58 @@ scan (suc k) a e = go (eqb (a % suc k) 0) (eqb (e % suc k) 0) refl refl (scan k 
       of_e = mul-div_cancel' (suc k) (dvd_of_mod-eq-zero (suc k) (eqb-true (e % suc k) 0 q));
       most = λ d x y l. l;
     }
-    go true false p q s = record { some = s.some; of_a = s.of_a; of_e = s.of_e; most = λ d x y l. less d k (divisor k a e) l (λ z. eqb-false (e % suc k) 0 q (subst (λ (i : ℕ). e % i ≡ 0) z (mod-eq-zero_of_dvd d y))) (s.most d x y) }
-    go false y p q s = record { some = s.some; of_a = s.of_a; of_e = s.of_e; most = λ d x z l. less d k (divisor k a e) l (λ w. eqb-false (a % suc k) 0 p (subst (λ (i : ℕ). a % i ≡ 0) w (mod-eq-zero_of_dvd d x))) (s.most d x z) }
+    go true false p q s = record { some = s.some; of_a = s.of_a; of_e = s.of_e; most = λ d x y l. elim (cases_eq d (suc k)) [ inl z ↦ absurd (eqb-false (e % suc k) 0 q (subst (λ (i : ℕ). e % i ≡ 0) z (mod-eq-zero_of_dvd d y))) | inr z ↦ s.most d x y (omega arith) ] }
+    go false y p q s = record { some = s.some; of_a = s.of_a; of_e = s.of_e; most = λ d x z l. elim (cases_eq d (suc k)) [ inl w ↦ absurd (eqb-false (a % suc k) 0 p (subst (λ (i : ℕ). a % i ≡ 0) w (mod-eq-zero_of_dvd d x))) | inr w ↦ s.most d x z (omega arith) ] }
 
 pub dvd_small : (d e : ℕ) → 1 ≤ e → d ∣ e → d ≤ e
-dvd_small d e l h = go (e / d) (mul-div_cancel' d h)
-  where
-    go : (k : ℕ) → d * k ≡ e → d ≤ e
-    go zero q = absurd (omega arith)
-    go (suc k) q = omega arith
+dvd_small d e l h = le_of_dvd l h
 
 pub divisor_gcd : DivisorGcd
 divisor_gcd a e l = record { some = (scan e a e).some; of_a = (scan e a e).of_a; of_e = (scan e a e).of_e; most = λ d x y. (scan e a e).most d x y (dvd_small d e l y) }
-
-assoc_any : (k : ℕ) (w d : ℤ) → (pos k *ℤ w) *ℤ d ≡ pos k *ℤ (w *ℤ d)
-assoc_any k w d = same_in ((pos k *ℤ w) *ℤ d) (pos k *ℤ (w *ℤ d))
-    (omega (
-      arith,
-      product_is (pos k *ℤ w) d,
-      product_is (pos k) (w *ℤ d),
-      product_is (pos k) w,
-      product_is w d,
-      ap (λ x. x * up d) (product_is (pos k) w).0,
-      ap (λ x. x * down d) (product_is (pos k) w).0,
-      ap (λ x. x * up d) (product_is (pos k) w).1,
-      ap (λ x. x * down d) (product_is (pos k) w).1,
-      ap (λ x. k * x) (product_is w d).0,
-      ap (λ x. k * x) (product_is w d).1,
-    ))
 
 -- one place's part of the sum
 abbrev pub part : ℕ → ℕ → ℕ → (ℕ → ℤ) → ℤ
 part g b p d = cond (ltb p g) (pos b *ℤ d p) (pos 0)
 
 part_step : (g b p : ℕ) (d : ℕ → ℤ) → part (suc g) b p d ≡ part g b p d +ℤ cond (eqb g p) (pos b) (pos 0) *ℤ d g
-part_step g b p d = go (eqb g p) refl (ltb p g) refl
-  where
-    nil : (z : ℤ) → pos 0 +ℤ z ≡ z
-    nil z = omega (arith, ints)
-
-    no : (x z : ℤ) → x ≡ x +ℤ pos 0 *ℤ z
-    no x z = omega (arith, ints)
-
-    go : (x : Bool) → eqb g p ≡ x → (y : Bool) → ltb p g ≡ y → part (suc g) b p d ≡ cond y (pos b *ℤ d p) (pos 0) +ℤ cond x (pos b) (pos 0) *ℤ d g
-    go true e true k = absurd (omega (arith, eqb-true g p e, ltb-true p g k))
-    go true e false k = let q : g ≡ p = eqb-true g p e in
-        ap (λ z. cond z (pos b *ℤ d p) (pos 0)) (lt-ltb p (suc g) (omega arith)) ∙ ap (λ i. pos b *ℤ d i) (sym q) ∙ sym (nil (pos b *ℤ d g))
-    go false e true k = ap (λ z. cond z (pos b *ℤ d p) (pos 0)) (lt-ltb p (suc g) (omega (arith, ltb-true p g k))) ∙ no (pos b *ℤ d p) (d g)
-    go false e false k = ap (λ z. cond z (pos b *ℤ d p) (pos 0)) (le-ltb p (suc g) (past g p (eqb-false g p e) (ltb-false p g k))) ∙ no (pos 0) (d g)
-      where
-        past : (g p : ℕ) → (g ≡ p → ⊥) → g ≤ p → suc g ≤ p
-        past g p n l = omega arith
+part_step g b p d = grind (arith, ints, cases_eq g p)
 
 pub absorb_sum : (g k b p : ℕ) (w d : ℕ → ℤ) → signed_sum g (λ i. (pos k *ℤ w i +ℤ cond (eqb i p) (pos b) (pos 0)) *ℤ d i) ≡ pos k *ℤ signed_sum g (λ i. w i *ℤ d i) +ℤ part g b p d
-absorb_sum zero k b p w d = ap (λ z. z) (nil k) ∙ ap (λ z. pos k *ℤ pos 0 +ℤ cond z (pos b *ℤ d p) (pos 0)) (sym (le-ltb p 0 zero-le))
-  where
-    nil : (k : ℕ) → pos 0 ≡ pos k *ℤ pos 0 +ℤ pos 0
-    nil k = omega (arith, ints)
-absorb_sum (suc g) k b p w d =
-    ap₂ (λ x y. x +ℤ y) (absorb_sum g k b p w d) (distrib_right (pos k *ℤ w g) (cond (eqb g p) (pos b) (pos 0)) (d g) ∙ ap (λ x. x +ℤ cond (eqb g p) (pos b) (pos 0) *ℤ d g) (assoc_any k (w g) (d g)))
-    ∙ mix (pos k *ℤ signed_sum g (λ i. w i *ℤ d i)) (part g b p d) (pos k *ℤ (w g *ℤ d g)) (cond (eqb g p) (pos b) (pos 0) *ℤ d g)
-    ∙ ap₂ (λ x y. x +ℤ y) (sym (distrib (pos k) (signed_sum g (λ i. w i *ℤ d i)) (w g *ℤ d g))) (sym (part_step g b p d))
-  where
-    mix : (a b c d : ℤ) → (a +ℤ b) +ℤ (c +ℤ d) ≡ (a +ℤ c) +ℤ (b +ℤ d)
-    mix a b c d = omega (arith, ints)
+absorb_sum zero k b p w d = grind (arith, ints)
+absorb_sum (suc g) k b p w d = omega (
+  arith,
+  ints,
+  absorb_sum g k b p w d,
+  distrib_right (pos k *ℤ w g) (cond (eqb g p) (pos b) (pos 0)) (d g),
+  assoc k (w g) (d g),
+  distrib (pos k) (signed_sum g (λ i. w i *ℤ d i)) (w g *ℤ d g),
+  part_step g b p d,
+)
 
 level_nat : (h a e x y : ℕ) → h * x ≡ a → h * y ≡ e → y * a ≡ x * e
 level_nat h a e x y p q = omega (arith, ap (λ z. y * z) p, ap (λ z. x * z) q, mul_comm x y)
 
 level : (x y a e : ℕ) (d : ℤ) → y * a ≡ x * e → d ≡ neg_ℤ (pos e) → pos y *ℤ pos a +ℤ pos x *ℤ d ≡ pos 0
-level x y a e d p q = ap (λ z. pos y *ℤ pos a +ℤ pos x *ℤ z) q ∙ go
-  where
-    go : pos y *ℤ pos a +ℤ pos x *ℤ neg_ℤ (pos e) ≡ pos 0
-    go = same_in (pos y *ℤ pos a +ℤ pos x *ℤ neg_ℤ (pos e)) (pos 0) (omega (arith, sum_is_lem (pos y *ℤ pos a) (pos x *ℤ neg_ℤ (pos e)), product_is (pos y) (pos a), product_is (pos x) (neg_ℤ (pos e)), ap (λ z. x * z) (neg_is (pos e)).0, ap (λ z. x * z) (neg_is (pos e)).1))
+level x y a e d p q = omega (arith, ints, ap (λ z. pos x *ℤ z) q, product_is (pos x) (neg_ℤ (pos e)), ap (λ z. x * z) (neg_is (pos e)).0, ap (λ z. x * z) (neg_is (pos e)).1)
 
 -- ---- the model's round is such a round
 pos_is : (z : ℤ) → lt_z (pos 0) z ≡ true → z ≡ pos (positive z)
-pos_is (pos n) e = refl
-pos_is (negsuc n) e = absurd (omega (arith, ints))
+pos_is z e = grind (arith, ints)
 
 pos_some : (z : ℤ) → lt_z (pos 0) z ≡ true → 1 ≤ positive z
-pos_some (pos n) e = omega (arith, ints)
-pos_some (negsuc n) e = absurd (omega (arith, ints))
+pos_some z e = grind (arith, ints)
 
-quiet_at : (b : Bool) (z : ℤ) → b ≡ false → not b && lt_z (pos 0) z ≡ false → z ≤ℤ pos 0
-quiet_at true z e k = absurd (subst T e tt)
-quiet_at false z e k = omega (arith, ints)
+is_rising : (n : Net) (r : Worked) (t : ℕ) → lowest (rising n r) 0 n.moves ≡ Some t → LowestRising n r t (positive (raise n r.weight t))
+is_rising n r t e =
+    let m = lowest_some (rising n r) n.moves t e in
+    let k = and_parts (not (n.controllable t)) (lt_z (pos 0) (raise n r.weight t)) m.0 in
+    record {
+      known = m.1;
+      uncontrollable = not-true (n.controllable t) k.0;
+      raises = pos_is (raise n r.weight t) k.1;
+      some = pos_some (raise n r.weight t) k.1;
+      lowest_one = λ u l c. not_rising (n.controllable u) (raise n r.weight u) c (m.2 u l);
+    }
 
 module _ (n : Net) (r : Worked) (t p : ℕ)
     (mv : lowest (rising n r) 0 n.moves ≡ Some t) (pl : lowest (falls n t) 0 n.ground_places ≡ Some p) where
@@ -138,7 +100,7 @@ module _ (n : Net) (r : Worked) (t p : ℕ)
   q = lowest_some (falls n t) n.ground_places p pl
 
   k : (not (n.controllable t) ≡ true) × (lt_z (pos 0) (raise n r.weight t) ≡ true)
-  k = and_true (not (n.controllable t)) (lt_z (pos 0) (raise n r.weight t)) m.0
+  k = and_parts (not (n.controllable t)) (lt_z (pos 0) (raise n r.weight t)) m.0
 
   abbrev ra : ℕ
   ra = positive (raise n r.weight t)
@@ -163,9 +125,6 @@ module _ (n : Net) (r : Worked) (t p : ℕ)
       ∙ ap₂ (λ x y. pos (re / rh) *ℤ x +ℤ cond y (pos (ra / rh) *ℤ incidence n p t) (pos 0)) (pos_is (raise n r.weight t) k.1) (lt-ltb p n.ground_places q.1)
       ∙ level (ra / rh) (re / rh) ra re (incidence n p t) (level_nat rh ra re (ra / rh) (re / rh) g.of_a g.of_e) (down_by (n.take p t) (n.give p t) q.0)
 
-  plain : (x : ℤ) → x +ℤ pos 0 ≡ x
-  plain x = omega (arith, ints)
-
   is_round_here : Round n r (changed n r t p)
   is_round_here = record {
     move = t;
@@ -173,20 +132,14 @@ module _ (n : Net) (r : Worked) (t p : ℕ)
     a = ra;
     e = re;
     h = rh;
-    rising = record {
-      known = m.1;
-      uncontrollable = not-true (n.controllable t) k.0;
-      raises = pos_is (raise n r.weight t) k.1;
-      some = pos_some (raise n r.weight t) k.1;
-      lowest_one = λ u l c. quiet_at (n.controllable u) (raise n r.weight u) c (m.2 u l);
-    };
+    rising = is_rising n r t mv;
     place_in = q.1;
     takes = omega (arith, ltb-true (n.give p t) (n.take p t) q.0);
     e_some = re_some;
     place_lowest = λ i l. ltb-false (n.give i t) (n.take i t) (q.2 i l);
     gcd = g;
     at_place = ap (λ b. pos (re / rh) *ℤ r.weight p +ℤ cond b (pos (ra / rh)) (pos 0)) (eq-eqb p p refl);
-    elsewhere = λ i d. ap (λ b. pos (re / rh) *ℤ r.weight i +ℤ cond b (pos (ra / rh)) (pos 0)) (ne_eqb i p d) ∙ plain (pos (re / rh) *ℤ r.weight i);
+    elsewhere = λ i d. ap (λ b. pos (re / rh) *ℤ r.weight i +ℤ cond b (pos (ra / rh)) (pos 0)) (ne_eqb i p d) ∙ +ℤ_idr (pos (re / rh) *ℤ r.weight i);
     bound = refl;
     counted = refl;
     levelled = level_here;
@@ -199,49 +152,23 @@ is_round n w t p = is_round_here n w t p
 small_says : (n : Net) (w : Worked) → fits n w ≡ true → Small n w
 small_says n w e = record { weights = range_weights most_worked_weight most_worked_bound n w.weight w.bound e; bound_in = range_bound most_worked_weight most_worked_bound n w.weight w.bound e }
 
--- a test that holds of each number below k
-all_below_if : (f : ℕ → Bool) (k : ℕ) → ((i : ℕ) → i < k → f i ≡ true) → all_below f k ≡ true
-all_below_if f zero h = refl
-all_below_if f (suc k) h = ap₂ (λ a b. a && b) (all_below_if f k (λ i l. h i (omega arith))) (h k (omega arith))
-
 range_if : (most_w most_b : ℕ) (n : Net) (l : ℕ → ℤ) (b : ℤ) → ((p : ℕ) → p < n.ground_places → nat_abs (l p) ≤ most_w) → nat_abs b ≤ most_b → in_range most_w most_b n l b ≡ true
-range_if most_w most_b n l b h k = ap₂ (λ x y. x && y) (all_below_if (λ p. leb (nat_abs (l p)) most_w) n.ground_places (λ p m. le-leb (nat_abs (l p)) most_w (h p m))) (le-leb (nat_abs b) most_b k)
+range_if most_w most_b n l b h k = ap₂ (λ x y. x && y) ((all_below_decides (λ p. leb (nat_abs (l p)) most_w) n.ground_places).1 (λ p m. le-leb (nat_abs (l p)) most_w (h p m))) (le-leb (nat_abs b) most_b k)
 
 small_not : (n : Net) (w : Worked) → fits n w ≡ false → Small n w → ⊥
 small_not n w e h = both_ways (fits n w) e (range_if most_worked_weight most_worked_bound n w.weight w.bound h.weights h.bound_in)
 
-is_rising : (n : Net) (r : Worked) (t : ℕ) → lowest (rising n r) 0 n.moves ≡ Some t → LowestRising n r t (positive (raise n r.weight t))
-is_rising n r t e =
-    let m = lowest_some (rising n r) n.moves t e in
-    let k = and_true (not (n.controllable t)) (lt_z (pos 0) (raise n r.weight t)) m.0 in
-    record {
-      known = m.1;
-      uncontrollable = not-true (n.controllable t) k.0;
-      raises = pos_is (raise n r.weight t) k.1;
-      some = pos_some (raise n r.weight t) k.1;
-      lowest_one = λ u l c. quiet_at (n.controllable u) (raise n r.weight u) c (m.2 u l);
-    }
-
 is_quiet : (n : Net) (r : Worked) → lowest (rising n r) 0 n.moves ≡ None → Quiet n r
-is_quiet n r e t l c = quiet_at (n.controllable t) (raise n r.weight t) c (lowest_none (rising n r) n.moves e t l)
-
-one_later : (a b : ℕ) → a ≤ b → suc a ≤ suc b
-one_later a b l = omega arith
+is_quiet n r e t l c = not_rising (n.controllable t) (raise n r.weight t) c (lowest_none (rising n r) n.moves e t l)
 
 later : (n : Net) (k : ℕ) (r s : Worked) → Round n r s → Small n s → (x : Result Worked Fault) → RoundsSay n k s x → RoundsSay n (suc k) r x
-later n k r s d ok (Ok w) h = record { count = suc h.count; few = one_later h.count k h.few; counted = up1 w.rounds s.rounds r.rounds h.count h.counted d.counted; chain = more d ok h.chain; quiet = h.quiet }
-  where
-    up1 : (a b c k : ℕ) → a ≡ b + k → b ≡ suc c → a ≡ c + suc k
-    up1 a b c k e f = omega arith
+later n k r s d ok (Ok w) h = record { count = suc h.count; few = omega (arith, h.few); counted = omega (arith, h.counted, d.counted); chain = more d ok h.chain; quiet = h.quiet }
 later n k r s d ok (Err f) (inl h) = inl (h.0, record { last = h.1.last; chain = more d ok h.1.chain; move = h.1.move; raised = h.1.raised; rising = h.1.rising })
-later n k r s d ok (Err f) (inr (inl h)) = inr (inl (h.0, record { count = suc h.1.count; few = one_later (suc h.1.count) k h.1.few; last = h.1.last; chain = more d ok h.1.chain; move = h.1.move; raised = h.1.raised; rising = h.1.rising; no_place = h.1.no_place }))
-later n k r s d ok (Err f) (inr (inr h)) = inr (inr (h.0, record { count = suc h.1.count; few = one_later (suc h.1.count) k h.1.few; last = h.1.last; chain = more d ok h.1.chain; big = h.1.big; round = h.1.round; not_small = h.1.not_small }))
+later n k r s d ok (Err f) (inr (inl h)) = inr (inl (h.0, record { count = suc h.1.count; few = omega (arith, h.1.few); last = h.1.last; chain = more d ok h.1.chain; move = h.1.move; raised = h.1.raised; rising = h.1.rising; no_place = h.1.no_place }))
+later n k r s d ok (Err f) (inr (inr h)) = inr (inr (h.0, record { count = suc h.1.count; few = omega (arith, h.1.few); last = h.1.last; chain = more d ok h.1.chain; big = h.1.big; round = h.1.round; not_small = h.1.not_small }))
 
 ends_here : (n : Net) (k : ℕ) (r : Worked) → lowest (rising n r) 0 n.moves ≡ None → WorkedOut n k r r
-ends_here n k r e = record { count = 0; few = zero-le; counted = same r.rounds; chain = none n r; quiet = is_quiet n r e }
-  where
-    same : (a : ℕ) → a ≡ a + 0
-    same a = omega arith
+ends_here n k r e = record { count = 0; few = zero-le; counted = omega arith; chain = none n r; quiet = is_quiet n r e }
 
 end_says : (n : Net) (r : Worked) (o : Option ℕ) → lowest (rising n r) 0 n.moves ≡ o → RoundsSay n 0 r (at_end r o)
 end_says n r None e = ends_here n 0 r e
@@ -268,23 +195,20 @@ rounds_say (suc k) n r = move_says n r k (rounds_from k n) (λ s. rounds_say k n
 -- ---- the rules that can be typed
 typed_says : (n : Net) (r : Rule) → is_typed n r ≡ true → CanBeTyped n r
 typed_says n r e =
-    let c = and_true (in_range most_weight most_bound n r.weight r.bound) (ground_only n r) e in
+    let c = and_parts (in_range most_weight most_bound n r.weight r.bound) (ground_only n r) e in
     record {
       weights = range_weights most_weight most_bound n r.weight r.bound c.0;
       elsewhere = λ p l k. off p l (ltb p n.ground_places) refl (all_below_says (λ i. ltb i n.ground_places || eqb (nat_abs (r.weight i)) 0) most_all_places c.1 p k);
       bound_in = range_bound most_weight most_bound n r.weight r.bound c.0;
     }
   where
-    zero_abs : (z : ℤ) → nat_abs z ≡ 0 → z ≡ pos 0
-    zero_abs z e = omega (arith, ints)
-
     off : (p : ℕ) → n.ground_places ≤ p → (b : Bool) → ltb p n.ground_places ≡ b → b || eqb (nat_abs (r.weight p)) 0 ≡ true → r.weight p ≡ pos 0
     off p l true d k = absurd (omega (arith, ltb-true p n.ground_places d))
-    off p l false d k = zero_abs (r.weight p) (eqb-true (nat_abs (r.weight p)) 0 k)
+    off p l false d k = omega (arith, ints, eqb-true (nat_abs (r.weight p)) 0 k)
 
 typed_if : (n : Net) (r : Rule) → CanBeTyped n r → is_typed n r ≡ true
 typed_if n r h = ap₂ (λ x y. x && y) (range_if most_weight most_bound n r.weight r.bound h.weights h.bound_in)
-    (all_below_if (λ p. ltb p n.ground_places || eqb (nat_abs (r.weight p)) 0) most_all_places (λ p l. on p l (ltb p n.ground_places) refl))
+    ((all_below_decides (λ p. ltb p n.ground_places || eqb (nat_abs (r.weight p)) 0) most_all_places).1 (λ p l. on p l (ltb p n.ground_places) refl))
   where
     on : (p : ℕ) → p < most_all_places → (b : Bool) → ltb p n.ground_places ≡ b → b || eqb (nat_abs (r.weight p)) 0 ≡ true
     on p l true d = refl

@@ -42,10 +42,7 @@ abbrev nothing : Apart []
 nothing = tt
 
 built_rows : {p : Pile} {rs : List InForce} → Built p rs → Rows p rs
-built_rows (bare n free R all fits) = record { apart = nothing; used_ruled = λ k l u. absurd (no k l) }
-  where
-    no : (k : ℕ) → k < 0 → ⊥
-    no k h = omega arith
+built_rows (bare n free R all fits) = record { apart = nothing; used_ruled = λ k l u. absurd (omega arith) }
 built_rows (monitored {p = p} {rs = rs} b) = rows_layer p rs monitor (built_rows b)
 built_rows (boarded {p = p} {rs = rs} b) = rows_layer p rs board (built_rows b)
 built_rows (monitor_set {p = p} {rs = rs} typed w b on ok is) = rows_set p rs 0 typed w (built_good b).shape ok (built_rows b)

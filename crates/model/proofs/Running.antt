@@ -1,8 +1,8 @@
 -- Every list of calls keeps the invariant: the promise.
-use Rattle.std.proofs.Common.{◌≡◌, ℕ, ◌+◌, ◌-◌, ◌<◌, ◌≤◌, max, Bool, true, false, cond, not, eqb, ltb, List, [], ◌∷◌, pos, ◌+ℤ◌, ◌-ℤ◌, Ok, Err, Result, sym, refl, ap, ◌∙◌, subst, arith, ltb-false, ltb-true, eqb-true}
-use Rattle.model.specs.declared.refusal.Refusal.TheVariants.{Uncontrollable, Controllable, TooManyOpen, NoRoom, NotOpen, GrantsOpen}
+use Rattle.std.proofs.Common.{inl, inr, ◌≡◌, ℕ, ◌+◌, ◌-◌, ◌<◌, ◌≤◌, max, cond, not, eqb, ltb, List, [], ◌∷◌, pos, ◌+ℤ◌, ◌-ℤ◌, Ok, Err, Result, sym, refl, ap, ◌∙◌, subst, arith, ltb-false, ltb-true, eqb-true}
+use Rattle.std.proofs.lemmas.Bool.{cases_lt}
+use Rattle.model.specs.declared.refusal.Refusal.TheVariants.{Controllable, NoRoom, NotOpen, GrantsOpen}
 use Rattle.model.specs.declared.fault.Fault.{Fault}
-use Rattle.model.specs.Sizes.{most_open}
 use Rattle.model.specs.Net.{Net, incidence}
 use Rattle.model.specs.Plant.{Answer, accepted, fault_of, fault_at, setting_fault, refuse_unless, ◌else_by◌, known, begin_answer, begun, finish_answer, finished, back_answer, gone_back}
 use Rattle.model.specs.Rule.{Rule, Worked}
@@ -13,21 +13,18 @@ use Rattle.model.specs.Book.{Book, new_book, entered, noted, book_from, book_of,
 use Rattle.model.specs.Promise.{Upheld, Promise}
 use Rattle.model.specs.Laws.{SameGround}
 use Rattle.model.proofs.Sums.{le_sum}
-use Rattle.model.proofs.Checks.{else_ok, refuse_unless_ok, refuse_at_ok, lowest_none, known_says, begin_says, finish_ok, begun_is, finished_is, gone_back_is}
+use Rattle.model.proofs.Checks.{checks_say, else_ok, refuse_unless_ok, refuse_at_ok, lowest_none, known_says, begin_says, finish_ok, begun_is, finished_is, gone_back_is}
 use Rattle.model.proofs.Working.{work_on_ground}
 use Rattle.model.proofs.Moving as moving
 use Rattle.model.proofs.Moving.{after}
 use Rattle.model.proofs.Setting.{set_net, set_same}
 use Rattle.model.proofs.Placing.{other_book}
-use Rattle.model.proofs.Layering.{layer_same}
+use Rattle.model.proofs.Layering.{same_refl, layer_same}
 use Rattle.model.proofs.LayerCalls.{layer_moves}
 use Rattle.model.proofs.TopRow.{net_set, set_low, set_steady, set_shape}
 use Rattle.model.proofs.Building.{Good, board_says, built_good}
 use Rattle.model.proofs.Reading.{upheld}
 use Rattle.model.proofs.Steady.{Steady, Shape}
-
-pub same_refl : (n : Net) → SameGround n n
-same_refl n = record { same_ground = refl; same_moves = refl; same_controllable = λ t. refl; same_take = λ p t l. refl; same_give = λ p t l. refl }
 
 same_trans : (n m k : Net) → SameGround n m → SameGround m k → SameGround n k
 same_trans n m k a b = record {
@@ -61,10 +58,7 @@ open_says g t e = ltb-true 0 (g t) (refuse_unless_ok (ltb 0 (g t)) (fault_of Not
 
 -- begin, and then room, leave finish nothing to refuse
 pub finish_after : (n : Net) (free g : ℕ → ℕ) (t : ℕ) → t < n.moves → begin_answer n free t ≡ Ok tt → room_answer n free g t ≡ Ok tt → finish_answer n (begun n free t) t ≡ Ok tt
-finish_after n free g t k b r = finish_ok n (begun n free t) t k (λ p a. fits (begun n free t p) (free p) (n.take p t) (n.give p t) (reserved n g p) (n.limit p) (begun_is n free t b p) (begin_says n free t k b p a) (room_says n free g t r p a))
-  where
-    fits : (x f a b h l : ℕ) → x ≡ f - a → a ≤ f → f + max a b + h ≤ l + a → x + b ≤ l
-    fits x f a b h l e m k = omega arith
+finish_after n free g t k b r = finish_ok n (begun n free t) t k (λ p a. omega (arith, begun_is n free t b p, begin_says n free t k b p a, room_says n free g t r p a))
 
 module _ (n : Net) (first : ℕ) (l : Ledger) (b : Book) (r : Ready n first l b) where
   abbrev m : Net
@@ -88,16 +82,15 @@ module _ (n : Net) (first : ℕ) (l : Ledger) (b : Book) (r : Ready n first l b)
   after_grant t e =
       let e₁ = else_ok (grant_checks m g t) (begin_answer m free t else_by room_answer m free g t) e in
       let e₂ = else_ok (begin_answer m free t) (room_answer m free g t) e₁.1 in
-      let e₃ = else_ok (known m t) (refuse_unless (m.controllable t) (fault_of Uncontrollable t) else_by refuse_unless (ltb (open_count m g) most_open) (fault_of TooManyOpen t)) e₁.0 in
-      let e₄ = else_ok (refuse_unless (m.controllable t) (fault_of Uncontrollable t)) (refuse_unless (ltb (open_count m g) most_open) (fault_of TooManyOpen t)) e₃.1 in
-      let k : t < m.moves = known_says m t e₃.0 in
+      let c = checks_say m g t e₁.0 in
+      let k : t < m.moves = c.0 in
       let tokens : pile_free (pile_begun l.pile t) ≡ begun m free t = sym ((layer_moves size l.pile.below l.pile.below_free l.pile.rows t).0 e₂.0) in
       record {
         same = r.same;
         firsts = r.firsts;
         counted = ap (λ f. plus_one f t) r.counted;
         steady = moving.granted m free g b.q b.rules r.steady t k (pile_free (pile_begun l.pile t)) (λ i. ap (λ f. f i) tokens ∙ begun_is m free t e₂.0 i) (begin_says m free t k e₂.0)
-            (ltb-true (open_count m g) most_open (refuse_unless_ok (ltb (open_count m g) most_open) (fault_of TooManyOpen t) e₄.1)) (room_says m free g t e₂.1);
+            c.2 (room_says m free g t e₂.1);
         shape = record { based = r.shape.based; there = r.shape.there; settled = r.shape.settled };
       }
 
@@ -151,14 +144,7 @@ module _ (n : Net) (first : ℕ) (l : Ledger) (b : Book) (r : Ready n first l b)
 
   -- ---- a row set
   none_open : open_count m g ≡ 0 → (t : ℕ) → g t ≡ 0
-  none_open e t = go (ltb t m.moves) refl
-    where
-      low : (a s : ℕ) → a ≤ s → s ≡ 0 → a ≡ 0
-      low a s h e = omega arith
-
-      go : (z : Bool) → ltb t m.moves ≡ z → g t ≡ 0
-      go true k = low (g t) (open_count m g) (le_sum m.moves g t (ltb-true t m.moves k)) e
-      go false k = r.steady.beyond t (ltb-false t m.moves k)
+  none_open e t = elim (cases_lt t m.moves) [ inl k ↦ omega (arith, le_sum m.moves g t k) | inr k ↦ r.steady.beyond t k ]
 
   pub work_below : (typed : Rule) → work l.pile.below typed ≡ work n typed
   work_below typed = sym (work_on_ground l.pile.below m (layer_same (row_count l.pile.top) l.pile.below l.pile.rows r.shape.based.places_all) typed) ∙ work_on_ground n m r.same typed

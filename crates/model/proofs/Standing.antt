@@ -1,20 +1,16 @@
 -- What stays true after every list, and laws of single calls: a refused call, a report.
-use Rattle.std.proofs.Common.{◌≡◌, ℕ, suc, cond, not, [], ◌∷◌, ℤ, pos, negsuc, ◌-ℤ◌, ◌*ℤ◌, neg_ℤ, ◌≤ℤ◌, Ok, Err, sym, refl, ap, subst, arith}
+use Rattle.std.proofs.Common.{◌≡◌, suc, cond, not, [], ◌∷◌, pos, Ok, Err, sym, refl, ap, arith}
 use borrow.Author.Differences.{ints}
 use Rattle.model.specs.declared.refusal.Refusal.TheVariants.{Controllable}
 use Rattle.model.specs.Plant.{Answer, accepted, fault_of, refuse_unless, ◌else_by◌, known, begin_answer, begun, finish_answer}
-use Rattle.model.specs.Rule.{raise, positive, negative, weighted_free}
+use Rattle.model.specs.Rule.{raise, weighted_free}
 use Rattle.model.specs.Ledger.{answer, new_ledger, net_under, free_under, room_answer, done, run}
-use Rattle.model.specs.Laws.{AllStanding, RefusedStill, AnswersAll, ReportIs, WorkedImplies, WorkDerives, WorkQuiets, WorkOnGround, Derived}
+use Rattle.model.specs.Laws.{AllStanding, RefusedStill, AnswersAll, ReportIs, WorkedImplies, Derived}
 use Rattle.model.proofs.Sums.{scaled, unscale}
 use Rattle.model.proofs.Checks.{known_says}
-use Rattle.model.proofs.Working as working
-use Rattle.model.proofs.Reading.{leq_trans}
+pub use Rattle.model.proofs.Working.{work_derives, work_quiets, work_on_ground}
+use Rattle.model.proofs.JustSet.{flip}
 use Rattle.model.proofs.Running.{ready, finish_after}
-
-arc_is : (z : ℤ) (a b : ℕ) → a ≡ positive z → b ≡ negative z → pos b -ℤ pos a ≡ neg_ℤ z
-arc_is (pos n) a b e k = omega (arith, ints)
-arc_is (negsuc n) a b e k = omega (arith, ints)
 
 pub standing : AllStanding
 standing p rs built cs =
@@ -25,8 +21,8 @@ standing p rs built cs =
       within = d.steady.roomy;
       few = d.steady.few;
       is_control = λ r m. ((d.steady.rules r m).low, (d.steady.rules r m).high);
-      arcs = λ r m t. arc_is (raise (net_under l) r.worked.weight t) ((net_under l).take r.place t) ((net_under l).give r.place t) ((d.steady.rules r m).takes t) ((d.steady.rules r m).gives t);
-      derived = λ r m. working.work_derives (net_under l) r.typed r.worked (d.steady.rules r m).working;
+      arcs = λ r m t. flip (raise (net_under l) r.worked.weight t) ((net_under l).take r.place t) ((net_under l).give r.place t) ((d.steady.rules r m).takes t) ((d.steady.rules r m).gives t);
+      derived = λ r m. work_derives (net_under l) r.typed r.worked (d.steady.rules r m).working;
       worked = λ r m. (d.steady.rules r m).working;
       blank_or_ruled = d.steady.control;
     }
@@ -50,19 +46,8 @@ report_is l t = go (known (net_under l) t) refl (refuse_unless (not ((net_under 
     go (Ok u) e (Ok w) (Ok v) d (Ok x) h = sym (finish_after (net_under l) (free_under l) l.opened t (known_says (net_under l) t e) d h)
 
 -- ---- working
-pub work_derives : WorkDerives
-work_derives n typed w e = working.work_derives n typed w e
-
-pub work_quiets : WorkQuiets
-work_quiets n typed w e = working.work_quiets n typed w e
-
-pub work_on_ground : WorkOnGround
-work_on_ground n m s typed = working.work_on_ground n m s typed
-
 pub worked_implies : WorkedImplies
 worked_implies n typed w e m h =
-    let d : Derived n.ground_places typed w = working.work_derives n typed w e in
+    let d : Derived n.ground_places typed w = work_derives n typed w e in
     unscale d.factor (weighted_free n typed.weight m) typed.bound d.factor_some
-    (subst (λ (x : ℤ). (pos d.factor *ℤ weighted_free n typed.weight m) ≤ℤ x) d.blend_bound
-    (leq_trans (pos d.factor *ℤ weighted_free n typed.weight m) (weighted_free n w.weight m) w.bound
-    (scaled n.ground_places d.factor w.weight d.rest typed.weight (λ i. pos (m i)) m d.rest_low d.blend (λ p l. refl)) h))
+    (omega (arith, ints, d.blend_bound, scaled n.ground_places d.factor w.weight d.rest typed.weight (λ i. pos (m i)) m d.rest_low d.blend (λ p l. refl), h))

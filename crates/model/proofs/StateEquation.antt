@@ -1,5 +1,7 @@
 -- The state equation: after every list the marking is the first marking and D times the moves fired.
-use Rattle.std.proofs.Common.{◌≡◌, ℕ, zero, suc, ◌+◌, ◌<◌, ◌≤◌, Bool, true, false, cond, eqb, ltb, List, [], ◌∷◌, ℤ, pos, ◌+ℤ◌, ◌-ℤ◌, ◌*ℤ◌, sym, refl, ap, ◌∙◌, subst, arith, ltb-false}
+use Rattle.std.proofs.Common.{inl, inr, lt-ltb, le-ltb, ◌≡◌, ℕ, ◌+◌, ◌<◌, Bool, true, false, cond, eqb, List, [], ◌∷◌, ℤ, pos, ◌+ℤ◌, ◌*ℤ◌, sym, ap, ◌∙◌, subst, arith}
+use lib.IntN.{zero-*ℤ}
+use Rattle.std.proofs.lemmas.Bool.{cases_lt}
 use borrow.Author.Differences.{ints}
 use Rattle.model.specs.Net.{Net, Ranges, signed_sum, incidence}
 use Rattle.model.specs.Layer.{pile_net}
@@ -7,41 +9,23 @@ use Rattle.model.specs.Ledger.{Call, grant, commit, cancel, report, admit, new_l
 use Rattle.model.specs.Book.{Book, new_book, noted, book_from, acceptances}
 use Rattle.model.specs.Laws.{fires_once, fired, StateEquation}
 use Rattle.model.proofs.Sums.{signed_sum_ext}
+use Rattle.model.proofs.Setting.{signed_sum_none, no_incidence}
 use Rattle.model.proofs.Rounds.{part, absorb_sum}
 use Rattle.model.proofs.Running.{ready, ready_new}
 
 module _ (n : Net) (R : Ranges n) where
-  none_sum : (k : ℕ) (d : ℕ → ℤ) → signed_sum k (λ u. pos 0 *ℤ d u) ≡ pos 0
-  none_sum zero d = refl
-  none_sum (suc k) d = omega (arith, ints, none_sum k d)
-
-  no_incidence : (p t : ℕ) → n.moves ≤ t → incidence n p t ≡ pos 0
-  no_incidence p t l = go (n.give p t) (n.take p t) (R.no_move p t l).1 (R.no_move p t l).0
-    where
-      go : (a b : ℕ) → a ≡ 0 → b ≡ 0 → pos a -ℤ pos b ≡ pos 0
-      go a b e k = omega (arith, ints)
-
   part_is : (p t : ℕ) → part n.moves 1 t (λ u. incidence n p u) ≡ incidence n p t
-  part_is p t = go (ltb t n.moves) refl
-    where
-      one : (z : ℤ) → pos 1 *ℤ z ≡ z
-      one z = omega (arith, ints)
-
-      go : (b : Bool) → ltb t n.moves ≡ b → cond b (pos 1 *ℤ incidence n p t) (pos 0) ≡ incidence n p t
-      go true e = one (incidence n p t)
-      go false e = sym (no_incidence p t (ltb-false t n.moves e))
+  part_is p t = elim (cases_lt t n.moves) [
+    | inl l ↦ grind (arith, ints, lt-ltb t n.moves l)
+    | inr l ↦ grind (arith, ints, le-ltb t n.moves l, no_incidence n R p t l)
+  ]
 
   bump : (p t : ℕ) (f : ℕ → ℕ) → signed_sum n.moves (λ u. pos (cond (eqb u t) 1 0 + f u) *ℤ incidence n p u) ≡ incidence n p t +ℤ signed_sum n.moves (λ u. pos (f u) *ℤ incidence n p u)
   bump p t f = signed_sum_ext n.moves (λ u. pos (cond (eqb u t) 1 0 + f u) *ℤ incidence n p u) (λ u. (pos 1 *ℤ pos (f u) +ℤ cond (eqb u t) (pos 1) (pos 0)) *ℤ incidence n p u) (λ u l. ap (λ z. z *ℤ incidence n p u) (split (eqb u t) (f u)))
-      ∙ absorb_sum n.moves 1 1 t (λ u. pos (f u)) (λ u. incidence n p u)
-      ∙ swap (signed_sum n.moves (λ u. pos (f u) *ℤ incidence n p u)) (part n.moves 1 t (λ u. incidence n p u)) (incidence n p t) (part_is p t)
+      ∙ omega (arith, ints, absorb_sum n.moves 1 1 t (λ u. pos (f u)) (λ u. incidence n p u), part_is p t)
     where
       split : (b : Bool) (x : ℕ) → pos (cond b 1 0 + x) ≡ pos 1 *ℤ pos x +ℤ cond b (pos 1) (pos 0)
-      split true x = omega (arith, ints)
-      split false x = omega (arith, ints)
-
-      swap : (s x d : ℤ) → x ≡ d → pos 1 *ℤ s +ℤ x ≡ d +ℤ s
-      swap s x d e = omega (arith, ints)
+      split b x = grind (arith, ints)
 
   module _ (first : ℕ) (p : ℕ) where
     abbrev moved : (ℕ → ℕ) → ℤ
@@ -69,8 +53,8 @@ module _ (n : Net) (R : Ranges n) where
     nil q s e = omega (arith, ints)
 
     state_book : (cs : List Call) (xs : List Bool) (b : Book) → (book_from n first b cs xs).q p ≡ b.q p +ℤ moved (fired cs xs)
-    state_book [] xs b = nil (b.q p) (signed_sum n.moves (λ u. pos 0 *ℤ incidence n p u)) (none_sum n.moves (λ u. incidence n p u))
-    state_book (c ∷ cs) [] b = nil (b.q p) (signed_sum n.moves (λ u. pos 0 *ℤ incidence n p u)) (none_sum n.moves (λ u. incidence n p u))
+    state_book [] xs b = nil (b.q p) (signed_sum n.moves (λ u. pos 0 *ℤ incidence n p u)) (signed_sum_none n.moves (λ u. pos 0 *ℤ incidence n p u) (λ u l. zero-*ℤ (incidence n p u)))
+    state_book (c ∷ cs) [] b = nil (b.q p) (signed_sum n.moves (λ u. pos 0 *ℤ incidence n p u)) (signed_sum_none n.moves (λ u. pos 0 *ℤ incidence n p u) (λ u l. zero-*ℤ (incidence n p u)))
     state_book (c ∷ cs) (x ∷ xs) b = one_call cs xs (λ b. state_book cs xs b) c x b
 
 pub state_equation : StateEquation

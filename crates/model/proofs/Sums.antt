@@ -1,7 +1,9 @@
 -- Laws of sums, plain and signed, and of products of signed numbers.
-use Rattle.std.proofs.Common.{◌≡◌, ℕ, zero, suc, ◌+◌, ◌*◌, ◌<◌, ◌≤◌, Bool, true, false, ltb, ℤ, pos, negsuc, ◌+ℤ◌, ◌-ℤ◌, ◌*ℤ◌, neg_ℤ, nat_abs, ◌≤ℤ◌, sym, refl, ap, ◌∙◌, subst, ap₂, zero-le, mul-le-mul_right, mul-le-mul, mul-le-mul_left, arith, ltb-false, ltb-true}
-use borrow.Author.Differences.{ints, up, down, sum_is_lem, product_is, same_in, le_out, le-false}
-use lib.Signed.{le_z}
+use Rattle.std.proofs.Common.{◌≡◌, ℕ, zero, suc, ◌+◌, ◌*◌, ◌<◌, ◌≤◌, ℤ, pos, negsuc, ◌+ℤ◌, ◌-ℤ◌, ◌*ℤ◌, neg_ℤ, nat_abs, ◌≤ℤ◌, sym, refl, ap, ◌∙◌, subst, ap₂, inl, inr, zero-le, mul-le-mul_right, mul-le-mul, mul-le-mul_left, arith}
+use borrow.Author.Differences.{ints, up, down, sum_is_lem, product_is, same_in, le_out}
+use Rattle.std.proofs.Math.IntN.{*ℤ_comm}
+use Rattle.std.proofs.lemmas.Bool.{cases_eq}
+use Rattle.std.proofs.lemmas.Int.{by_lt_z, unsigned_abs-mul}
 use Rattle.model.specs.Net.{sum, signed_sum}
 use Rattle.model.specs.Rule.{positive}
 
@@ -14,25 +16,17 @@ pub sum_le : (k : ℕ) (f g : ℕ → ℕ) → ((i : ℕ) → i < k → f i ≤ 
 sum_le zero f g h = zero-le
 sum_le (suc k) f g h = omega (arith, sum_le k f g (λ i l. h i (omega arith)), h k (omega arith))
 
-le_sum_go : (k : ℕ) (f : ℕ → ℕ) (i : ℕ) → i < suc k → (i < k → f i ≤ sum k f) → (b : Bool) → ltb i k ≡ b → f i ≤ sum k f + f k
-le_sum_go k f i l r true e = omega (arith, r (ltb-true i k e))
-le_sum_go k f i l r false e = let q : k ≡ i = omega (arith, ltb-false i k e) in subst (λ (j : ℕ). f j ≤ sum k f + f k) q (omega arith)
-
 pub le_sum : (k : ℕ) (f : ℕ → ℕ) (i : ℕ) → i < k → f i ≤ sum k f
 le_sum zero f i l = absurd (omega arith)
-le_sum (suc k) f i l = le_sum_go k f i l (λ m. le_sum k f i m) (ltb i k) refl
+le_sum (suc k) f i l = grind (arith, le_sum k f i, cases_eq i k)
 
 -- one summand changed, by d
-sum_one_go : (k t d : ℕ) (f g : ℕ → ℕ) → t < suc k → ((u : ℕ) → (u ≡ t → ⊥) → g u ≡ f u) → g t ≡ f t + d → (t < k → sum k g ≡ sum k f + d) → (b : Bool) → ltb t k ≡ b → sum k g + g k ≡ (sum k f + f k) + d
-sum_one_go k t d f g l same at r true e = let m : t < k = ltb-true t k e in omega (arith, r m, same k (λ q. omega arith))
-sum_one_go k t d f g l same at r false e =
-    let q : t ≡ k = omega (arith, ltb-false t k e) in
-    let h : g k ≡ f k + d = subst (λ (j : ℕ). g j ≡ f j + d) q at in
-    omega (arith, sum_ext k g f (λ i m. same i (λ w. omega arith)), h)
-
 pub sum_one : (k t d : ℕ) (f g : ℕ → ℕ) → t < k → ((u : ℕ) → (u ≡ t → ⊥) → g u ≡ f u) → g t ≡ f t + d → sum k g ≡ sum k f + d
 sum_one zero t d f g l same at = absurd (omega arith)
-sum_one (suc k) t d f g l same at = sum_one_go k t d f g l same at (λ m. sum_one k t d f g m same at) (ltb t k) refl
+sum_one (suc k) t d f g l same at = elim (cases_eq t k) [
+  | inl e ↦ omega (arith, sum_ext k g f (λ i m. same i (λ w. omega arith)), subst (λ (j : ℕ). g j ≡ f j + d) e at)
+  | inr n ↦ omega (arith, sum_one k t d f g (omega arith) same at, same k (λ q. n (sym q)))
+]
 
 pub sum_below : (k m : ℕ) (g h : ℕ → ℕ) → ((i : ℕ) → i < k → h i ≤ m) → sum k (λ u. g u * h u) ≤ sum k g * m
 sum_below zero m g h b = zero-le
@@ -59,49 +53,30 @@ distrib k a b = same_in (k *ℤ (a +ℤ b)) (k *ℤ a +ℤ k *ℤ b)
       ap (λ x. down k * x) (sum_is_lem a b),
     ))
 
-pub abs_mul : (a b : ℤ) → nat_abs (a *ℤ b) ≡ nat_abs a * nat_abs b
-abs_mul (pos a) (pos b) = refl
-abs_mul (pos a) (negsuc b) = omega (arith, ints)
-abs_mul (negsuc a) (pos b) = omega (arith, ints)
-abs_mul (negsuc a) (negsuc b) = refl
-
-pub abs_add : (a b : ℤ) → nat_abs (a +ℤ b) ≤ nat_abs a + nat_abs b
-abs_add a b = omega (arith, ints)
-
 -- ---- sums of integers
 pub signed_sum_ext : (k : ℕ) (f g : ℕ → ℤ) → ((i : ℕ) → i < k → f i ≡ g i) → signed_sum k f ≡ signed_sum k g
 signed_sum_ext zero f g h = refl
 signed_sum_ext (suc k) f g h = ap₂ (λ a b. a +ℤ b) (signed_sum_ext k f g (λ i l. h i (omega arith))) (h k (omega arith))
 
-add_step : (a b c d s : ℤ) → s ≡ a +ℤ b → s +ℤ (c +ℤ d) ≡ (a +ℤ c) +ℤ (b +ℤ d)
-add_step a b c d s e = omega (arith, ints)
-
 pub signed_sum_add : (k : ℕ) (l q d : ℕ → ℤ) → signed_sum k (λ p. l p *ℤ (q p +ℤ d p)) ≡ signed_sum k (λ p. l p *ℤ q p) +ℤ signed_sum k (λ p. l p *ℤ d p)
 signed_sum_add zero l q d = refl
-signed_sum_add (suc k) l q d =
-    ap (λ x. signed_sum k (λ p. l p *ℤ (q p +ℤ d p)) +ℤ x) (distrib (l k) (q k) (d k))
-    ∙ add_step (signed_sum k (λ p. l p *ℤ q p)) (signed_sum k (λ p. l p *ℤ d p)) (l k *ℤ q k) (l k *ℤ d k) (signed_sum k (λ p. l p *ℤ (q p +ℤ d p))) (signed_sum_add k l q d)
+signed_sum_add (suc k) l q d = omega (arith, ints, distrib (l k) (q k) (d k), signed_sum_add k l q d)
 
 pub signed_sum_abs : (k m : ℕ) (f : ℕ → ℤ) → ((i : ℕ) → i < k → nat_abs (f i) ≤ m) → nat_abs (signed_sum k f) ≤ k * m
 signed_sum_abs zero m f h = zero-le
-signed_sum_abs (suc k) m f h = omega (arith, abs_add (signed_sum k f) (f k), signed_sum_abs k m f (λ i l. h i (omega arith)), h k (omega arith))
+signed_sum_abs (suc k) m f h = omega (arith, ints, signed_sum_abs k m f (λ i l. h i (omega arith)), h k (omega arith))
 
 pub abs_mul_le : (a b : ℤ) (m n : ℕ) → nat_abs a ≤ m → nat_abs b ≤ n → nat_abs (a *ℤ b) ≤ m * n
-abs_mul_le a b m n h k = subst (λ (x : ℕ). x ≤ m * n) (sym (abs_mul a b)) (mul-le-mul h k)
+abs_mul_le a b m n h k = subst (λ (x : ℕ). x ≤ m * n) (sym (unsigned_abs-mul a b)) (mul-le-mul h k)
 
 -- ---- the greatest raise over choices
 choice_term : (c v : ℕ) (r : ℤ) → c ≤ v → (pos c *ℤ r) ≤ℤ pos (v * positive r)
 choice_term c v (pos n) h = omega (arith, ints, mul-le-mul_right n h)
 choice_term c v (negsuc n) h = omega (arith, ints)
 
-choice_step : (a x : ℤ) (b y : ℕ) → a ≤ℤ pos b → x ≤ℤ pos y → (a +ℤ x) ≤ℤ pos (b + y)
-choice_step a x b y h k = omega (arith, ints)
-
 pub choice_most : (k : ℕ) (c v : ℕ → ℕ) (r : ℕ → ℤ) → ((u : ℕ) → c u ≤ v u) → signed_sum k (λ u. pos (c u) *ℤ r u) ≤ℤ pos (sum k (λ u. v u * positive (r u)))
 choice_most zero c v r h = record { le = tt }
-choice_most (suc k) c v r h =
-    choice_step (signed_sum k (λ u. pos (c u) *ℤ r u)) (pos (c k) *ℤ r k) (sum k (λ u. v u * positive (r u))) (v k * positive (r k))
-    (choice_most k c v r h) (choice_term (c k) (v k) (r k) (h k))
+choice_most (suc k) c v r h = omega (arith, ints, choice_most k c v r h, choice_term (c k) (v k) (r k) (h k))
 
 -- the choice that reaches it: all where the raise is positive, none elsewhere
 abbrev pub wise : ℤ → ℕ → ℕ
@@ -122,40 +97,27 @@ wise_sum (suc k) v r = ap₂ (λ a b. a +ℤ b) (wise_sum k v r) (wise_term (r k
 
 -- ---- a worked rule implies the rule as typed
 pub distrib_right : (a b k : ℤ) → (a +ℤ b) *ℤ k ≡ a *ℤ k +ℤ b *ℤ k
-distrib_right a b k = same_in ((a +ℤ b) *ℤ k) (a *ℤ k +ℤ b *ℤ k)
+distrib_right a b k = *ℤ_comm (a +ℤ b) k ∙ distrib k a b ∙ ap₂ (λ x y. x +ℤ y) (*ℤ_comm k a) (*ℤ_comm k b)
+
+pub assoc : (k : ℕ) (w d : ℤ) → (pos k *ℤ w) *ℤ d ≡ pos k *ℤ (w *ℤ d)
+assoc k w d = same_in ((pos k *ℤ w) *ℤ d) (pos k *ℤ (w *ℤ d))
     (omega (
       arith,
-      sum_is_lem (a *ℤ k) (b *ℤ k),
-      product_is (a +ℤ b) k,
-      product_is a k,
-      product_is b k,
-      ap (λ x. up k * x) (sum_is_lem a b),
-      ap (λ x. down k * x) (sum_is_lem a b),
+      product_is (pos k *ℤ w) d,
+      product_is (pos k) (w *ℤ d),
+      product_is (pos k) w,
+      product_is w d,
+      ap (λ x. x * up d) (product_is (pos k) w).0,
+      ap (λ x. x * down d) (product_is (pos k) w).0,
+      ap (λ x. x * up d) (product_is (pos k) w).1,
+      ap (λ x. x * down d) (product_is (pos k) w).1,
+      ap (λ x. k * x) (product_is w d).0,
+      ap (λ x. k * x) (product_is w d).1,
     ))
-
-pub assoc_pos : (r n : ℕ) (l : ℤ) → (pos r *ℤ l) *ℤ pos n ≡ pos r *ℤ (l *ℤ pos n)
-assoc_pos r n (pos l) = ap pos (omega arith)
-assoc_pos r n (negsuc l) = same_in ((pos r *ℤ negsuc l) *ℤ pos n) (pos r *ℤ (negsuc l *ℤ pos n))
-    (omega (
-      arith,
-      product_is (pos r *ℤ negsuc l) (pos n),
-      product_is (pos r) (negsuc l *ℤ pos n),
-      product_is (pos r) (negsuc l),
-      product_is (negsuc l) (pos n),
-      ap (λ x. n * x) (product_is (pos r) (negsuc l)).0,
-      ap (λ x. n * x) (product_is (pos r) (negsuc l)).1,
-      ap (λ x. r * x) (product_is (negsuc l) (pos n)).0,
-      ap (λ x. r * x) (product_is (negsuc l) (pos n)).1,
-    ))
-
-scale_arith : (rs rl s' am x rsl : ℤ) → rs ≤ℤ s' → pos 0 ≤ℤ am → x ≡ am +ℤ rl → rsl ≡ rs +ℤ rl → rsl ≤ℤ (s' +ℤ x)
-scale_arith rs rl s' am x rsl h0 h1 h2 h3 = omega (arith, ints)
 
 scale : (r n : ℕ) (a x l s s' : ℤ) → pos 0 ≤ℤ a → x ≡ a +ℤ pos r *ℤ l → (pos r *ℤ s) ≤ℤ s' → (pos r *ℤ (s +ℤ l *ℤ pos n)) ≤ℤ (s' +ℤ x *ℤ pos n)
 scale r n (pos a) x l s s' ha hx hs =
-    scale_arith (pos r *ℤ s) (pos r *ℤ (l *ℤ pos n)) s' (pos (a * n)) (x *ℤ pos n) (pos r *ℤ (s +ℤ l *ℤ pos n)) hs (omega (arith, ints))
-    (ap (λ y. y *ℤ pos n) hx ∙ distrib_right (pos a) (pos r *ℤ l) (pos n) ∙ ap (λ y. pos (a * n) +ℤ y) (assoc_pos r n l))
-    (distrib (pos r) s (l *ℤ pos n))
+    omega (arith, ints, ap (λ y. y *ℤ pos n) hx, distrib_right (pos a) (pos r *ℤ l) (pos n), assoc r l (pos n), distrib (pos r) s (l *ℤ pos n))
 scale r n (negsuc a) x l s s' ha hx hs = absurd ha.le
 
 pub scaled : (k r : ℕ) (w a l : ℕ → ℤ) (q : ℕ → ℤ) (m : ℕ → ℕ) → ((p : ℕ) → p < k → pos 0 ≤ℤ a p) → ((p : ℕ) → p < k → w p ≡ a p +ℤ pos r *ℤ l p) → ((p : ℕ) → p < k → q p ≡ pos (m p)) →
@@ -168,10 +130,9 @@ scaled (suc k) r w a l q m ha hw hq =
     (scale r (m k) (a k) (w k) (l k) (signed_sum k (λ p. l p *ℤ q p)) (signed_sum k (λ p. w p *ℤ q p)) (ha k (omega arith)) (hw k (omega arith)) ih)
 
 -- r s ≤ r (b + 1) - 1, so s ≤ b
-unscale_go : (r : ℕ) (s b : ℤ) → 1 ≤ r → (pos r *ℤ s) ≤ℤ (pos r *ℤ (b +ℤ pos 1) -ℤ pos 1) → (t : Bool) → le_z s b ≡ t → s ≤ℤ b
-unscale_go r s b h k true e = omega (arith, ints)
-unscale_go r s b h k false e =
-    let m : up b + down s + 1 ≤ up s + down b = omega (arith, le-false s b e) in
+pub unscale : (r : ℕ) (s b : ℤ) → 1 ≤ r → (pos r *ℤ s) ≤ℤ (pos r *ℤ (b +ℤ pos 1) -ℤ pos 1) → s ≤ℤ b
+unscale r s b h k = by_lt_z b s (λ l.
+    let m : up b + down s + 1 ≤ up s + down b = omega (arith, ints) in
     absurd (omega (
       arith,
       le_out (pos r *ℤ s) (pos r *ℤ (b +ℤ pos 1) -ℤ pos 1) k,
@@ -180,7 +141,4 @@ unscale_go r s b h k false e =
       product_is (pos r) (b +ℤ pos 1),
       ap (λ x. r * x) (sum_is_lem b (pos 1)),
       mul-le-mul_left r m,
-    ))
-
-pub unscale : (r : ℕ) (s b : ℤ) → 1 ≤ r → (pos r *ℤ s) ≤ℤ (pos r *ℤ (b +ℤ pos 1) -ℤ pos 1) → s ≤ℤ b
-unscale r s b h k = unscale_go r s b h k (le_z s b) refl
+    ))) (λ m. m)

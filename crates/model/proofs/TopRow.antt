@@ -1,8 +1,9 @@
 -- A row of the top layer that is set: what its acceptance says, and that the pile keeps the invariant.
-use Rattle.std.proofs.Common.{◌≡◌, ℕ, ◌+◌, ◌<◌, ◌≤◌, Bool, true, false, cond, not, eqb, ltb, ◌⊎◌, List, ◌∷◌, ℤ, ◌-ℤ◌, ◌≤ℤ◌, Ok, Result, sym, refl, ap, ◌∙◌, subst, ap₂, inl, inr, arith, ltb-false, ltb-true, eq-eqb}
+use Rattle.std.proofs.Common.{◌≡◌, ℕ, ◌+◌, ◌<◌, ◌≤◌, true, false, cond, not, eqb, ltb, ◌⊎◌, List, ◌∷◌, ℤ, ◌-ℤ◌, ◌≤ℤ◌, Ok, Result, sym, refl, ap, ◌∙◌, subst, ap₂, inl, inr, arith, ltb-false, eq-eqb}
 use mathlib.Core.Path.{fun_ext}
 use mathlib.Core.List.Memᴰ
 use mathlib.Core.List.{Memᴰ}
+use Rattle.std.proofs.lemmas.Bool.{cond_both}
 use lib.Signed.{le_z}
 use borrow.Author.Tests.{not-true, both_ways}
 use borrow.Author.Differences.{ints}
@@ -16,18 +17,14 @@ use Rattle.model.specs.Layer.{Row, is_shut, masked_take, masked_give, ruled_row,
 use Rattle.model.specs.Laws.{SameGround}
 use Rattle.model.proofs.Checks.{else_ok, refuse_unless_ok}
 use Rattle.model.proofs.Working.{same_raise, work_on_ground, work_quiets}
-use Rattle.model.proofs.Setting.{raise_none, positive_none, set_net, set_free}
+use Rattle.model.proofs.Setting.{raise_none, untaken, set_net, set_free}
 use Rattle.model.proofs.Placing.{placed}
 use Rattle.model.proofs.Layering.{open_net, net_opens, free_opens, layer_same, layer_weighted, changed_row}
 use Rattle.model.proofs.Steady.{Steady, Shape}
 
 -- ---- which rows are in use
 used_more : (rows : ℕ → Row) (r : ℕ) (new : Row) (k : ℕ) → new.in_use ≡ true → (rows k).in_use ≡ true → (change_row rows r new k).in_use ≡ true
-used_more rows r new k u e = go (eqb k r)
-  where
-    go : (b : Bool) → (cond b new (rows k)).in_use ≡ true
-    go true = u
-    go false = e
+used_more rows r new k u e = cond_both (eqb k r) new (rows k) (λ x. x.in_use ≡ true) (λ q. u) (λ q. e)
 
 settled_more : (p : Pile) (r : ℕ) (w : Worked) (i : InForce) → (i.place < p.below.places) ⊎ ((k : ℕ) × (i.place ≡ row_place p k) × ((p.rows k).in_use ≡ true)) →
     (i.place < p.below.places) ⊎ ((k : ℕ) × (i.place ≡ row_place p k) × (((with_rule p r w).rows k).in_use ≡ true))
@@ -61,11 +58,8 @@ top_says p r typed e =
       held_now = e₂.1;
     }
 
-pub le_says : (x b : ℤ) → le_z x b ≡ true → x ≤ℤ b
-le_says x b e = omega (arith, ints)
-
 pub now_says : (n : Net) (free : ℕ → ℕ) (w : Worked) → holds_now n free (Ok w) ≡ Ok tt → weighted_free n w.weight free ≤ℤ w.bound
-now_says n free w e = le_says (weighted_free n w.weight free) w.bound (refuse_unless_ok (le_z (weighted_free n w.weight free) w.bound) (setting_fault Broken) e)
+now_says n free w e = omega (arith, ints, refuse_unless_ok (le_z (weighted_free n w.weight free) w.bound) (setting_fault Broken) e)
 
 -- a row of a board that is there
 pub open_row : (top : Top) (r : ℕ) → r < open_rows top → r < row_count top
@@ -106,22 +100,10 @@ module _ (p : Pile) (R : Ranges p.below) (r : ℕ) (here : r < row_count p.top) 
 
   -- the mask leaves the arcs of a worked rule as they are
   take_unmasked : (t : ℕ) → masked_take n new t ≡ positive (raise (pile_net p) w.weight t)
-  take_unmasked t = go (n.controllable t) refl ∙ ap positive (sym (raises t))
-    where
-      none : (b : Bool) → ltb t n.moves ≡ b → n.controllable t ≡ false → 0 ≡ positive (raise n w.weight t)
-      none true k e = sym (positive_none (raise n w.weight t) (work_quiets n typed w is t (ltb-true t n.moves k) e))
-      none false k e = sym (ap positive (raise_none n w.weight R t (ltb-false t n.moves k)))
-
-      go : (b : Bool) → n.controllable t ≡ b → cond b (new.take t) 0 ≡ positive (raise n w.weight t)
-      go true e = refl
-      go false e = none (ltb t n.moves) refl e
+  take_unmasked t = cond_both (n.controllable t) (new.take t) 0 (λ x. x ≡ positive (raise n w.weight t)) (λ e. refl) (λ e. sym (untaken n w.weight R (work_quiets n typed w is) t e)) ∙ ap positive (sym (raises t))
 
   give_unmasked : (t : ℕ) → masked_give n new t ≡ negative (raise (pile_net p) w.weight t)
-  give_unmasked t = go (ltb t n.moves) refl ∙ ap negative (sym (raises t))
-    where
-      go : (b : Bool) → ltb t n.moves ≡ b → cond b (new.give t) 0 ≡ negative (raise n w.weight t)
-      go true e = refl
-      go false e = sym (ap negative (raise_none n w.weight R t (ltb-false t n.moves e)))
+  give_unmasked t = cond_both (ltb t n.moves) (new.give t) 0 (λ x. x ≡ negative (raise n w.weight t)) (λ e. refl) (λ e. sym (ap negative (raise_none n w.weight R t (ltb-false t n.moves e)))) ∙ ap negative (sym (raises t))
 
   -- ---- a setting is a change of one place
   abbrev with_arcs : (ℕ → ℕ → ℕ) → (ℕ → ℕ → ℕ) → Net
@@ -165,10 +147,7 @@ module _ (p : Pile) (R : Ranges p.below) (r : ℕ) (here : r < row_count p.top) 
     spot = h.there r here says.open_layer
 
     pub set_low : (pile_net p).ground_places ≤ c
-    set_low = up (pile_net p).ground_places n.places r spot.0
-      where
-        up : (a b c : ℕ) → a ≤ b → a ≤ b + c
-        up a b c h = omega arith
+    set_low = omega (arith, spot.0)
 
     pub set_steady : ((t : ℕ) → g t ≡ 0) → Steady (pile_net (with_rule p r w)) (pile_free (with_rule p r w)) g q (in_force p r typed w ∷ rs)
     set_steady z = subst (λ (m : Net). Steady m (pile_free (with_rule p r w)) g q (in_force p r typed w ∷ rs)) (sym net_set)

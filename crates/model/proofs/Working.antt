@@ -1,8 +1,12 @@
 -- What working gives: a rule derived from the typed one, which no uncontrollable move raises, by the ground part of the net alone.
-use Rattle.std.proofs.Common.{◌≡◌, ℕ, zero, suc, ◌+◌, ◌-◌, ◌*◌, ◌/◌, ◌%◌, ◌<◌, ◌≤◌, max, Bool, true, false, cond, not, ◌&&◌, ◌||◌, T, eqb, ltb, leb, ℤ, pos, negsuc, ◌+ℤ◌, ◌-ℤ◌, ◌*ℤ◌, nat_abs, ◌≤ℤ◌, Some, None, Ok, Err, Option, Result, sym, refl, ap, ◌∙◌, subst, ap₂, mul-le-mul, le-div_iff_mul-le, arith, ltb-false, ltb-true, ne_eqb, leb-true}
+use Rattle.std.proofs.Common.{Decides, ◌≡◌, ℕ, zero, suc, ◌+◌, ◌-◌, ◌*◌, ◌/◌, ◌<◌, ◌≤◌, max, Bool, true, false, cond, not, ◌&&◌, ◌||◌, eqb, ltb, leb, ℤ, pos, negsuc, ◌+ℤ◌, ◌-ℤ◌, ◌*ℤ◌, nat_abs, ◌≤ℤ◌, Some, None, Ok, Err, Option, Result, sym, refl, ap, ◌∙◌, subst, ap₂, mul-le-mul, arith, ltb-true, ne_eqb, leb-true}
+use Rattle.std.proofs.Math.Bool.{and_comm}
+use Rattle.std.proofs.lemmas.Bool.{and_parts}
+use Rattle.std.proofs.lemmas.Bool.Decides.{Decides-below_and}
+use Rattle.std.proofs.lemmas.Nat.{le-div}
 use lib.Signed.{lt_z}
-use borrow.Author.Differences.{ints, same_in, product_is}
-use Rattle.model.specs.declared.refusal.Refusal.TheVariants.{NotTyped, NotAbsorbed, TooLarge, TooManyRounds}
+use borrow.Author.Differences.{ints}
+use Rattle.model.specs.declared.refusal.Refusal.TheVariants.{NotTyped, TooLarge}
 use Rattle.model.specs.declared.fault.Fault.{Fault}
 use Rattle.model.specs.Sizes.{most_all_places, most_weight, most_bound, most_worked_weight, most_worked_bound, most_rounds}
 use Rattle.model.specs.Net.{Net, signed_sum, incidence}
@@ -10,63 +14,37 @@ use Rattle.model.specs.Plant.{lowest, setting_fault}
 use Rattle.model.specs.Rule.{Rule, Worked, raise, positive, all_below, in_range}
 use Rattle.model.specs.Working.{divisor, rising, falls, absorbed, changed, fits, at_place, at_move, at_end, rounds_from, ground_only, is_typed, unchanged, work}
 use Rattle.model.specs.Laws.{Derived, SameGround}
-use Rattle.model.proofs.Sums.{distrib, signed_sum_ext}
+use Rattle.model.proofs.Sums.{distrib, assoc, signed_sum_ext}
 use Rattle.model.proofs.Checks.{lowest_some, lowest_none, lowest_ext}
 
 -- ---- tests
-pub and_true : (a b : Bool) → a && b ≡ true → (a ≡ true) × (b ≡ true)
-and_true true b e = (refl, e)
-and_true false b e = absurd (subst T (sym e) tt)
-
-below_go : (f : ℕ → Bool) (k i : ℕ) → f k ≡ true → (i < k → f i ≡ true) → i < suc k → (b : Bool) → ltb i k ≡ b → f i ≡ true
-below_go f k i e r l true t = r (ltb-true i k t)
-below_go f k i e r l false t = let q : k ≡ i = omega (arith, ltb-false i k t) in subst (λ (x : ℕ). f x ≡ true) q e
+pub all_below_decides : (f : ℕ → Bool) (k : ℕ) → Decides (all_below f k) ((i : ℕ) → i < k → f i ≡ true)
+all_below_decides f k = Decides-below_and f (λ i. f i ≡ true) (all_below f) (λ i. (λ e. e, λ e. e)) refl (λ n. and_comm (all_below f n) (f n)) k
 
 pub all_below_says : (f : ℕ → Bool) (k : ℕ) → all_below f k ≡ true → (i : ℕ) → i < k → f i ≡ true
-all_below_says f zero e i l = absurd (omega arith)
-all_below_says f (suc k) e i l = below_go f k i (and_true (all_below f k) (f k) e).1 (λ m. all_below_says f k (and_true (all_below f k) (f k) e).0 i m) l (ltb i k) refl
+all_below_says f k = (all_below_decides f k).0
 
 pub range_weights : (w b : ℕ) (n : Net) (l : ℕ → ℤ) (x : ℤ) → in_range w b n l x ≡ true → (p : ℕ) → p < n.ground_places → nat_abs (l p) ≤ w
-range_weights w b n l x e p k = leb-true (nat_abs (l p)) w (all_below_says (λ i. leb (nat_abs (l i)) w) n.ground_places (and_true (all_below (λ i. leb (nat_abs (l i)) w) n.ground_places) (leb (nat_abs x) b) e).0 p k)
+range_weights w b n l x e p k = leb-true (nat_abs (l p)) w (all_below_says (λ i. leb (nat_abs (l i)) w) n.ground_places (and_parts (all_below (λ i. leb (nat_abs (l i)) w) n.ground_places) (leb (nat_abs x) b) e).0 p k)
 
 pub range_bound : (w b : ℕ) (n : Net) (l : ℕ → ℤ) (x : ℤ) → in_range w b n l x ≡ true → nat_abs x ≤ b
-range_bound w b n l x e = leb-true (nat_abs x) b (and_true (all_below (λ i. leb (nat_abs (l i)) w) n.ground_places) (leb (nat_abs x) b) e).1
+range_bound w b n l x e = leb-true (nat_abs x) b (and_parts (all_below (λ i. leb (nat_abs (l i)) w) n.ground_places) (leb (nat_abs x) b) e).1
 
 divisor_range : (k a e : ℕ) → (1 ≤ divisor k a e) × (divisor k a e ≤ max 1 k)
 divisor_range zero a e = omega arith
-divisor_range (suc k) a e = go (eqb (a % suc k) 0 && eqb (e % suc k) 0) (divisor_range k a e)
-  where
-    go : (b : Bool) → (1 ≤ divisor k a e) × (divisor k a e ≤ max 1 k) → (1 ≤ cond b (suc k) (divisor k a e)) × (cond b (suc k) (divisor k a e) ≤ max 1 (suc k))
-    go true h = omega arith
-    go false h = omega arith
+divisor_range (suc k) a e = grind (arith, divisor_range k a e)
 
 times_some : (a e : ℕ) → 1 ≤ e → 1 ≤ e / divisor e a e
-times_some a e l =
-    let h = divisor_range e a e in
-    (le-div_iff_mul-le {k = divisor e a e} {x = 1} {y = e} h.0).1 (small (divisor e a e) e h.1 l)
-  where
-    small : (d e : ℕ) → d ≤ max 1 e → 1 ≤ e → 1 * d ≤ e
-    small d e h l = omega arith
+times_some a e l = le-div 1 e (divisor e a e) (divisor_range e a e).0 (omega (arith, divisor_range e a e))
 
 -- ---- one round
-twice_times : (k f : ℕ) (l : ℤ) → pos k *ℤ (pos f *ℤ l) ≡ pos (k * f) *ℤ l
-twice_times k f l = same_in (pos k *ℤ (pos f *ℤ l)) (pos (k * f) *ℤ l)
-    (omega (arith, product_is (pos k) (pos f *ℤ l), product_is (pos f) l, product_is (pos (k * f)) l, ap (λ x. k * x) (product_is (pos f) l).0, ap (λ x. k * x) (product_is (pos f) l).1))
-
-swap_last : (a b c : ℤ) → (a +ℤ b) +ℤ c ≡ (a +ℤ c) +ℤ b
-swap_last a b c = omega (arith, ints)
-
-back_one : (b x : ℤ) → b ≡ x -ℤ pos 1 → b +ℤ pos 1 ≡ x
-back_one b x e = omega (arith, ints)
-
 low_sum : (k : ℕ) (r c : ℤ) → pos 0 ≤ℤ r → pos 0 ≤ℤ c → pos 0 ≤ℤ (pos k *ℤ r +ℤ c)
 low_sum k (pos a) (pos b) h m = omega (arith, ints)
 low_sum k (pos a) (negsuc b) h m = absurd m.le
 low_sum k (negsuc a) c h m = absurd h.le
 
 at_low : (b : Bool) (x : ℕ) → pos 0 ≤ℤ cond b (pos x) (pos 0)
-at_low true x = omega (arith, ints)
-at_low false x = omega (arith, ints)
+at_low b x = grind (arith, ints)
 
 round_derived : (n : Net) (typed : Rule) (r : Worked) (p h a e : ℕ) → Derived n.ground_places typed r → p < n.ground_places → 1 ≤ e / h → fits n (absorbed r p h a e) ≡ true → Derived n.ground_places typed (absorbed r p h a e)
 round_derived n typed r p h a e s l some ok = record {
@@ -80,7 +58,7 @@ round_derived n typed r p h a e s l some ok = record {
   rest = λ i. pos (e / h) *ℤ s.rest i +ℤ cond (eqb i p) (pos (a / h)) (pos 0);
   rest_low = λ i k. low_sum (e / h) (s.rest i) (cond (eqb i p) (pos (a / h)) (pos 0)) (s.rest_low i k) (at_low (eqb i p) (a / h));
   blend = λ i k. mix (e / h) s.factor (r.weight i) (s.rest i) (typed.weight i) (cond (eqb i p) (pos (a / h)) (pos 0)) (s.blend i k);
-  blend_bound = ap (λ x. pos (e / h) *ℤ x -ℤ pos 1) (back_one r.bound (pos s.factor *ℤ (typed.bound +ℤ pos 1)) s.blend_bound) ∙ ap (λ x. x -ℤ pos 1) (twice_times (e / h) s.factor (typed.bound +ℤ pos 1));
+  blend_bound = ap (λ x. pos (e / h) *ℤ x -ℤ pos 1) back ∙ ap (λ x. x -ℤ pos 1) (sym (assoc (e / h) (pos s.factor) (typed.bound +ℤ pos 1)));
 }
   where
     out : (i : ℕ) → eqb i p ≡ false → r.weight i ≡ pos 0 → pos (e / h) *ℤ r.weight i +ℤ cond (eqb i p) (pos (a / h)) (pos 0) ≡ pos 0
@@ -89,49 +67,42 @@ round_derived n typed r p h a e s l some ok = record {
         nil : (k : ℕ) → pos k *ℤ pos 0 +ℤ pos 0 ≡ pos 0
         nil k = omega (arith, ints)
 
+    back : r.bound +ℤ pos 1 ≡ pos s.factor *ℤ (typed.bound +ℤ pos 1)
+    back = omega (arith, ints, s.blend_bound)
+
     mix : (k f : ℕ) (w r l c : ℤ) → w ≡ r +ℤ pos f *ℤ l → pos k *ℤ w +ℤ c ≡ (pos k *ℤ r +ℤ c) +ℤ pos (k * f) *ℤ l
-    mix k f w r l c q = ap (λ x. pos k *ℤ x +ℤ c) q ∙ ap (λ x. x +ℤ c) (distrib (pos k) r (pos f *ℤ l) ∙ ap (λ x. pos k *ℤ r +ℤ x) (twice_times k f l)) ∙ swap_last (pos k *ℤ r) (pos (k * f) *ℤ l) c
+    mix k f w r l c q = omega (arith, ints, ap (λ x. pos k *ℤ x) q, distrib (pos k) r (pos f *ℤ l), assoc k (pos f) l)
 
 -- ---- all rounds
 record Done (n : Net) (typed : Rule) (w : Worked) : Type 0 where
   derived : Derived n.ground_places typed w
   still : (t : ℕ) → t < n.moves → rising n w t ≡ false
 
-bad : (f : Fault) (w : Worked) → ◌≡◌ {A = Result Worked Fault} (Err f) (Ok w) → ⊥
-bad f w e = let z : ◌≡◌ {A = ℕ} 0 1 = cc in omega arith
-
-same_ok : (r w : Worked) → ◌≡◌ {A = Result Worked Fault} (Ok r) (Ok w) → r ≡ w
-same_ok r w e = cc
-
 cond_ok : (b : Bool) (x : Result Worked Fault) (f : Fault) (w : Worked) → cond b x (Err f) ≡ Ok w → (b ≡ true) × (x ≡ Ok w)
-cond_ok true x f w e = (refl, e)
-cond_ok false x f w e = absurd (bad f w e)
+cond_ok b x f w e = grind arith
 
 done_here : (n : Net) (typed : Rule) (r w : Worked) → Derived n.ground_places typed r → lowest (rising n r) 0 n.moves ≡ None → r ≡ w → Done n typed w
 done_here n typed r w s none e = subst (λ (x : Worked). Done n typed x) e (record { derived = s; still = lowest_none (rising n r) n.moves none })
 
 place_done : (n : Net) (typed : Rule) (r w : Worked) (on : Worked → Result Worked Fault) → ((r : Worked) → Derived n.ground_places typed r → on r ≡ Ok w → Done n typed w) → Derived n.ground_places typed r →
     (t : ℕ) (o : Option ℕ) → lowest (falls n t) 0 n.ground_places ≡ o → at_place on n r t o ≡ Ok w → Done n typed w
-place_done n typed r w on rec s t None q e = absurd (bad (setting_fault NotAbsorbed) w e)
+place_done n typed r w on rec s t None q e = grind arith
 place_done n typed r w on rec s t (Some p) q e =
     let f = lowest_some (falls n t) n.ground_places p q in
     let c = cond_ok (fits n (changed n r t p)) (on (changed n r t p)) (setting_fault TooLarge) w e in
     rec (changed n r t p)
     (round_derived n typed r p (divisor (n.take p t - n.give p t) (positive (raise n r.weight t)) (n.take p t - n.give p t)) (positive (raise n r.weight t)) (n.take p t - n.give p t)
-    s f.1 (times_some (positive (raise n r.weight t)) (n.take p t - n.give p t) (more (n.give p t) (n.take p t) f.0)) c.0)
+    s f.1 (times_some (positive (raise n r.weight t)) (n.take p t - n.give p t) (omega (arith, ltb-true (n.give p t) (n.take p t) f.0))) c.0)
     c.1
-  where
-    more : (a b : ℕ) → ltb a b ≡ true → 1 ≤ b - a
-    more a b e = omega (arith, ltb-true a b e)
 
 move_done : (n : Net) (typed : Rule) (r w : Worked) (on : Worked → Result Worked Fault) → ((r : Worked) → Derived n.ground_places typed r → on r ≡ Ok w → Done n typed w) → Derived n.ground_places typed r →
     (o : Option ℕ) → lowest (rising n r) 0 n.moves ≡ o → at_move on n r o ≡ Ok w → Done n typed w
-move_done n typed r w on rec s None q e = done_here n typed r w s q (same_ok r w e)
+move_done n typed r w on rec s None q e = done_here n typed r w s q cc
 move_done n typed r w on rec s (Some t) q e = place_done n typed r w on rec s t (lowest (falls n t) 0 n.ground_places) refl e
 
 end_done : (n : Net) (typed : Rule) (r w : Worked) → Derived n.ground_places typed r → (o : Option ℕ) → lowest (rising n r) 0 n.moves ≡ o → at_end r o ≡ Ok w → Done n typed w
-end_done n typed r w s None q e = done_here n typed r w s q (same_ok r w e)
-end_done n typed r w s (Some t) q e = absurd (bad (setting_fault TooManyRounds) w e)
+end_done n typed r w s None q e = done_here n typed r w s q cc
+end_done n typed r w s (Some t) q e = grind arith
 
 rounds_done : (k : ℕ) (n : Net) (typed : Rule) (w r : Worked) → Derived n.ground_places typed r → rounds_from k n r ≡ Ok w → Done n typed w
 unfolding rounds_from
@@ -140,39 +111,26 @@ rounds_done (suc k) n typed w r s e = move_done n typed r w (rounds_from k n) (�
 
 typed_derived : (n : Net) (r : Rule) → in_range most_weight most_bound n r.weight r.bound ≡ true → Derived n.ground_places r (unchanged r)
 typed_derived n r e = record {
-  weights_in = λ p l. wide (nat_abs (r.weight p)) (range_weights most_weight most_bound n r.weight r.bound e p l);
+  weights_in = λ p l. omega (arith, range_weights most_weight most_bound n r.weight r.bound e p l);
   weights_out = λ off. off;
-  bound_in = far (nat_abs r.bound) (range_bound most_weight most_bound n r.weight r.bound e);
+  bound_in = omega (arith, range_bound most_weight most_bound n r.weight r.bound e);
   typed_weights_in = range_weights most_weight most_bound n r.weight r.bound e;
   typed_bound_in = range_bound most_weight most_bound n r.weight r.bound e;
   factor = 1;
   factor_some = omega arith;
   rest = λ p. pos 0;
   rest_low = λ p l. omega (arith, ints);
-  blend = λ p l. plain (r.weight p);
-  blend_bound = whole r.bound;
+  blend = λ p l. omega (arith, ints);
+  blend_bound = omega (arith, ints);
 }
-  where
-    wide : (a : ℕ) → a ≤ most_weight → a ≤ most_worked_weight
-    wide a h = omega arith
-
-    far : (a : ℕ) → a ≤ most_bound → a ≤ most_worked_bound
-    far a h = omega arith
-
-    plain : (x : ℤ) → x ≡ pos 0 +ℤ pos 1 *ℤ x
-    plain x = omega (arith, ints)
-
-    whole : (x : ℤ) → x ≡ pos 1 *ℤ (x +ℤ pos 1) -ℤ pos 1
-    whole x = omega (arith, ints)
 
 work_done : (n : Net) (typed : Rule) (w : Worked) → work n typed ≡ Ok w → Done n typed w
 work_done n typed w e =
     let c = cond_ok (is_typed n typed) (rounds_from most_rounds n (unchanged typed)) (setting_fault NotTyped) w e in
-    rounds_done most_rounds n typed w (unchanged typed) (typed_derived n typed (and_true (in_range most_weight most_bound n typed.weight typed.bound) (ground_only n typed) c.0).0) c.1
+    rounds_done most_rounds n typed w (unchanged typed) (typed_derived n typed (and_parts (in_range most_weight most_bound n typed.weight typed.bound) (ground_only n typed) c.0).0) c.1
 
-not_rising : (b : Bool) (z : ℤ) → b ≡ false → not b && lt_z (pos 0) z ≡ false → z ≤ℤ pos 0
-not_rising true z e k = absurd (subst T e tt)
-not_rising false z e k = omega (arith, ints)
+pub not_rising : (b : Bool) (z : ℤ) → b ≡ false → not b && lt_z (pos 0) z ≡ false → z ≤ℤ pos 0
+not_rising b z e k = grind (arith, ints)
 
 -- ---- the ground alone is looked at
 module _ (n m : Net) (s : SameGround n m) where
