@@ -18,15 +18,7 @@ impl<P: Plant> Ledger<Board<P>> {
     fn check_none_open(&self) -> Result<(), Fault>
         ensures { result ≡ refuse_unless (self.now.grants.total == 0) (setting_fault GrantsOpen) }
     {
-        if self.grants.total() == 0 {
-            Ok(())
-        } else {
-            Err(Fault {
-                refusal: Refusal::GrantsOpen,
-                transition: None,
-                spot: None,
-            })
-        }
+        Fault::of_setting(Refusal::GrantsOpen).unless(self.grants.total() == 0)
     }
 
     // What `admit` would answer now.

@@ -7,39 +7,17 @@ ghost use Rattle.ledger.specs.Grants.{opened};
 ghost use Rattle.ledger.specs.Ledgers.{ledger_of};
 
 use crate::ledger::Ledger;
-use model::fault::{Fault, Spot};
+use model::fault::Fault;
 use model::refusal::Refusal;
 use model::sizes::MOST_OPEN;
 use plant::plant::Plant;
-
-// The fault of the move `t`, for no place.
-fn fault(refusal: Refusal, t: usize) -> Fault
-    ensures { result ≡ fault_of refusal t }
-{
-    Fault {
-        refusal,
-        transition: Some(t),
-        spot: None,
-    }
-}
-
-// Accepted if the test holds, else refused for the move `t`.
-fn check(holds: bool, refusal: Refusal, t: usize) -> Result<(), Fault>
-    ensures { result ≡ refuse_unless holds (fault_of refusal t) }
-{
-    if holds {
-        Ok(())
-    } else {
-        Err(fault(refusal, t))
-    }
-}
 
 impl<P: Plant> Ledger<P> {
     // Refused for a missing move.
     pub(crate) fn check_known(&self, t: usize) -> Result<(), Fault>
         ensures { result ≡ known (P.Net.net self.now.pile) t }
     {
-        check(t < self.pile.moves(), Refusal::NoMove, t)
+        Fault::of_move(Refusal::NoMove, t).unless(t < self.pile.moves())
     }
 
     // The checks of a grant before any place is looked at.
@@ -47,15 +25,15 @@ impl<P: Plant> Ledger<P> {
         ensures { result ≡ grant_checks (P.Net.net self.now.pile) (opened self.now.grants.counts) t }
     {
         self.check_known(t)?;
-        check(self.pile.controllable(t), Refusal::Uncontrollable, t)?;
-        check(self.grants.total() < MOST_OPEN, Refusal::TooManyOpen, t)
+        Fault::of_move(Refusal::Uncontrollable, t).unless(self.pile.controllable(t))?;
+        Fault::of_move(Refusal::TooManyOpen, t).unless(self.grants.total() < MOST_OPEN)
     }
 
     // Refused if no grant of the move is open.
     pub(crate) fn check_open(&self, t: usize) -> Result<(), Fault>
         ensures { result ≡ is_open (opened self.now.grants.counts) t }
     {
-        check(0 < self.grants.of(t), Refusal::NotOpen, t)
+        Fault::of_move(Refusal::NotOpen, t).unless(0 < self.grants.of(t))
     }
 
     // Whether the place has no room for the move, were it and all open grants settled either way.
@@ -87,18 +65,7 @@ impl<P: Plant> Ledger<P> {
         ensures { result ≡ room_answer (P.Net.net self.now.pile) (P.Plant.tokens self.now.pile) (opened self.now.grants.counts) t }
     {
         match self.crowded_place(t) {
-            Some(p) => {
-                let spot = Spot {
-                    place: p,
-                    layer: self.pile.layer(p),
-                    row: self.pile.row(p),
-                };
-                Err(Fault {
-                    refusal: Refusal::NoRoom,
-                    transition: Some(t),
-                    spot: Some(spot),
-                })
-            }
+            Some(p) => Err(Fault::at(Refusal::NoRoom, t, self.pile.spot(p))),
             None => Ok(()),
         }
     }
@@ -135,7 +102,7 @@ impl<P: Plant> Ledger<P> {
         ensures { result ≡ answer (ledger_of (P.Plant.pile self.now.pile) self.now.grants) (report t) }
     {
         self.check_known(t)?;
-        check(!self.pile.controllable(t), Refusal::Controllable, t)?;
+        Fault::of_move(Refusal::Controllable, t).unless(!self.pile.controllable(t))?;
         self.pile.may_begin(t)?;
         self.check_room(t)
     }

@@ -41,7 +41,7 @@ impl Grants {
     pub(crate) fn of(&self, t: usize) -> u32
         ensures { result ≡ opened self.now.counts t }
     {
-        if t < MOST_MOVES { self.counts[t] } else { 0 }
+        self.counts.get(t).copied().unwrap_or(0)
     }
 
     // The open grants of all moves.
