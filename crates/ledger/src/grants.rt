@@ -59,6 +59,9 @@ impl Grants {
         self.reserved[p]
     }
 
+    // Kept: `add` and `remove` differ in a sign, and so in what each requires and promises; one function for both would say all of it
+    // twice over, by the sign or by a closure.
+
     // One more grant of the move `t`.
     pub(crate) fn add<N: Net>(&mut self, net: &N, t: usize)
         requires tallied { Tallied (N.Net.net net.now) self.old }
@@ -67,8 +70,9 @@ impl Grants {
         ensures tallied { Tallied (N.Net.net net.now) self.new }
         ensures counts { opened self.new.counts ≡ plus_one (opened self.old.counts) t }
     {
-        'places: for p in 0..net.places() {
-            self.reserved[p] += most_brought(net, p, t);
+        let places = net.places();
+        'places: for (p, reserved) in self.reserved[..places].iter_mut().enumerate() {
+            *reserved += most_brought(net, p, t);
         }
         self.counts[t] += 1;
         self.total += 1;
@@ -82,8 +86,9 @@ impl Grants {
         ensures tallied { Tallied (N.Net.net net.now) self.new }
         ensures counts { opened self.new.counts ≡ minus_one (opened self.old.counts) t }
     {
-        'places: for p in 0..net.places() {
-            self.reserved[p] -= most_brought(net, p, t);
+        let places = net.places();
+        'places: for (p, reserved) in self.reserved[..places].iter_mut().enumerate() {
+            *reserved -= most_brought(net, p, t);
         }
         self.counts[t] -= 1;
         self.total -= 1;
