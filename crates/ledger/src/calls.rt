@@ -51,7 +51,6 @@ impl<P: Plant> Ledger<P> {
     {
         self.may_report(t)?;
         self.pile.begin(t)?;
-        self.pile.finish(t)?;
-        Ok(())
+        self.pile.finish(t)
     }
 }
