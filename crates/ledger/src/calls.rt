@@ -19,10 +19,8 @@ impl<P: Plant> Ledger<P> {
         Ok(())
     }
 
-    // Kept: `commit` and `cancel` differ in one call of the pile. A function with that call as a closure would have to require that the
-    // closure leaves the net alone, and to say three times what comes of its answer: more lines than the two bodies.
-
     // Ends one open grant of the move `t`: it has been made, and finishes.
+    // Kept: this and `cancel` differ in one call of the pile; what a closure in its place may do would take more clauses than it saves.
     pub fn commit(&mut self, t: usize) -> Result<(), Fault>
         ensures answer { result ≡ answer (value_of self.old) (commit t) }
         ensures after { value_of self.new ≡ next (value_of self.old) (commit t) }

@@ -59,10 +59,8 @@ impl Grants {
         self.reserved[p]
     }
 
-    // Kept: `add` and `remove` differ in a sign, and so in what each requires and promises; one function for both would say all of it
-    // twice over, by the sign or by a closure.
-
     // One more grant of the move `t`.
+    // Kept: this and `remove` differ in a sign, and so in what they require and promise; one function would have to say both.
     pub(crate) fn add<N: Net>(&mut self, net: &N, t: usize)
         requires tallied { Tallied (N.Net.net net.now) self.old }
         requires there { t < (N.Net.net net.now).moves }

@@ -41,7 +41,7 @@ impl<P: Plant> Ledger<Board<P>> {
         ensures no_memory { OnErr result (self.new ≡ self.old) }
     {
         let mut answers = Vec::with_capacity(alloc, calls.len())?;
-        // Kept: a closure that makes the calls changes the ledger, and of its changes a chain that collects the answers tells nothing.
+        // Kept: the room for all answers is there before any call is made; a `collect` could fail after some of them.
         'calls: for call in calls {
             answers.push_reserved(self.make(call));
         }

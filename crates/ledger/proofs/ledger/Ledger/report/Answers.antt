@@ -18,7 +18,7 @@ pub returns-clause-after : goal.returns-clause-after
 returns-clause-after g c =
     let s = g.met.P.Plant.stacked c.args.self.now.pile in
     let e : c.finish.result ≡ Ok tt = c.finish.ensures.answer
-        ∙ report_finishes (g.P.Plant.pile c.args.self.now.pile) (g.P.Net.net c.args.self.now.pile) (g.P.Plant.tokens c.args.self.now.pile) c.args.self.now.grants c.args.t s.0 s.1 _ _ c.begin.ensures.same c.begin.ensures.after c.in_ok-may_report.ensures in
+    ∙ report_finishes (g.P.Plant.pile c.args.self.now.pile) (g.P.Net.net c.args.self.now.pile) (g.P.Plant.tokens c.args.self.now.pile) c.args.self.now.grants c.args.t s.0 s.1 _ _ c.begin.ensures.same c.begin.ensures.after c.in_ok-may_report.ensures in
     ap (λ p. ledger_of p c.args.self.now.grants)
     (c.finish.ensures.whole
     ∙ ap (λ (a : Answer). if accepted a then pile_finished (g.P.Plant.pile c.begin.new.self) c.args.t else g.P.Plant.pile c.begin.new.self) e
