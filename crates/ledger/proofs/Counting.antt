@@ -1,10 +1,14 @@
 -- The sums over open grants, when one more is open or one fewer.
-use Rattle.std.proofs.Common.{◌≡◌, ℕ, ◌+◌, ◌*◌, ◌<◌, ◌≤◌, max, ap, sym, refl, ◌∙◌, inl, inr, arith, slice_index, slice_set, replicate, length, List, cond, ◌==◌, ◌-◌, zero, suc, subst, le_trans, mul-le-mul}
+use Rattle.std.proofs.Common.{◌≡◌, ℕ, ◌+◌, ◌*◌, ◌<◌, ◌≤◌, max, ap, sym, refl, ◌∙◌, inl, inr, arith, slice_index, slice_set, replicate, length, List, map, cond, ◌==◌, ◌-◌, zero, suc, le_trans, mul-le-mul, add-one}
+use Rattle.std.specs.List.{range_with_len}
+use Rattle.std.specs.List as lists
+use Rattle.std.proofs.lemmas.List.FromFn.{map-range_with_len_more}
+use Rattle.std.proofs.lemmas.List.Sums.{fold_push}
 use Rattle.std.proofs.lemmas.Bool.{cases_lt, cases_eq, cond-true, cond-false, eq-eqb, ne_eqb}
 use Rattle.std.proofs.lemmas.List.{get_or_past, get_or-replicate, length-replicate, get_or-set_same, get_or-set_other}
 use Rattle.model.specs.Sizes.{most_control_arc, most_open, control_limit}
 use Rattle.model.specs.Net.{Net, Ranges, sum}
-use Rattle.model.specs.Ledger.{open_count, reserved, plus_one, minus_one}
+use Rattle.model.specs.Ledger.{open_count, reserved, taken, plus_one, minus_one}
 use Rattle.ledger.specs.declared.grants.Grants.{Grants}
 use Rattle.ledger.specs.Grants.{opened, Tallied}
 use Rattle.model.proofs.Sums.{sum_below, le_sum, sum_zero, sum_none}
@@ -94,13 +98,6 @@ tallied_none n g none total nothing = record {
 }
 
 -- ---- markings
-sum_part : (k m : ℕ) (f : ℕ → ℕ) → k ≤ m → sum k f ≤ sum m f
-sum_part k zero f l = let e : k ≡ 0 = omega arith in subst (λ j. sum j f ≤ sum 0 f) (sym e) (omega arith)
-sum_part k (suc m) f l = elim (cases_lt k (suc m)) [
-  | inl h ↦ omega (arith, sum_part k m f (omega arith))
-  | inr h ↦ let e : k ≡ suc m = omega arith in subst (λ j. sum j f ≤ sum (suc m) f) (sym e) (omega arith)
-]
-
 take_small : (n : Net) → Ranges n → (p t : ℕ) → n.take p t ≤ most_control_arc
 take_small n r p t = elim (cases_lt p n.ground_places) [ inl l ↦ omega (arith, (r.ground_arcs p t l).0) | inr l ↦ omega (arith, (r.control_arcs p t l).0) ]
 
@@ -110,13 +107,25 @@ limit_small n r p = elim (cases_lt p n.ground_places) [
   | inr l ↦ elim (cases_lt p n.places) [ inl k ↦ omega (arith, r.control_limited p l k) | inr k ↦ omega (arith, (r.no_place p 0 k).2) ]
 ]
 
--- what has been added up after the move t still fits
-module _ (n : Net) (r : Ranges n) (g : ℕ → ℕ) (few : open_count n g ≤ most_open) (p t : ℕ) (there : t < n.moves) where
-  pub one_taken : g t * n.take p t ≤ most_open * most_control_arc
-  one_taken = mul-le-mul (le_trans (le_sum n.moves g t there) few) (take_small n r p t)
+-- what open grants have taken from a place, and its free tokens with that, still fit
+module _ (n : Net) (r : Ranges n) (g : ℕ → ℕ) (few : open_count n g ≤ most_open) (p : ℕ) where
+  pub one_taken : (t : ℕ) → g t * n.take p t ≤ most_open * most_control_arc
+  one_taken t = elim (cases_lt t n.moves) [
+    | inl l ↦ mul-le-mul (le_trans (le_sum n.moves g t l) few) (take_small n r p t)
+    | inr l ↦ omega (arith, ap (λ x. g t * x) (r.no_move p t l).0)
+  ]
 
-  pub taken_so_far : (free : ℕ) → free ≤ n.limit p → free + sum t (λ u. g u * n.take p u) + g t * n.take p t ≤ control_limit + most_open * most_control_arc
-  taken_so_far free l =
-      let all = sum_below n.moves most_control_arc g (λ u. n.take p u) (λ u h. take_small n r p u) in
-      let part : sum (suc t) (λ u. g u * n.take p u) ≤ sum n.moves (λ u. g u * n.take p u) = sum_part (suc t) n.moves (λ u. g u * n.take p u) (omega arith) in
-      omega (arith, all, part, limit_small n r p)
+  pub all_taken : taken n g p ≤ most_open * most_control_arc
+  all_taken = omega (arith, sum_below n.moves most_control_arc g (λ u. n.take p u) (λ u h. take_small n r p u))
+
+  pub free_and_taken : (free : ℕ) → free ≤ n.limit p → free + taken n g p ≤ control_limit + most_open * most_control_arc
+  free_and_taken free l = omega (arith, all_taken, limit_small n r p)
+
+-- the sum of the model is that of a list
+pub sum_listed : (n : ℕ) (f : ℕ → ℕ) → lists.sum (map f (range_with_len 0 n)) ≡ sum n f
+sum_listed zero f = refl
+sum_listed (suc n) f =
+    ap (λ k. lists.sum (map f (range_with_len 0 k))) (sym (add-one n))
+    ∙ ap lists.sum (map-range_with_len_more f 0 n n (omega arith))
+    ∙ fold_push (λ a x. a + x) 0 (map f (range_with_len 0 n)) (f n)
+    ∙ ap (λ x. x + f n) (sum_listed n f)

@@ -1,3 +1,4 @@
 pub mod Grants
 pub mod Ledgers
+pub mod Values
 pub mod Calls

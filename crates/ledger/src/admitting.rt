@@ -4,7 +4,7 @@ ghost use Rattle.model.specs.declared.refusal.Refusal.TheVariants.{GrantsOpen};
 ghost use Rattle.model.specs.Plant.{setting_fault, refuse_unless};
 ghost use Rattle.model.specs.Ledger.{admit, answer, next};
 ghost use Rattle.rules.specs.Rules.{rule_of};
-ghost use Rattle.ledger.specs.Ledgers.{ledger_of};
+ghost use Rattle.ledger.specs.Values.{value_of};
 
 use crate::ledger::Ledger;
 use layers::board::Board;
@@ -18,20 +18,12 @@ impl<P: Plant> Ledger<Board<P>> {
     fn check_none_open(&self) -> Result<(), Fault>
         ensures { result ≡ refuse_unless (self.now.grants.total == 0) (setting_fault GrantsOpen) }
     {
-        if self.grants.total() == 0 {
-            Ok(())
-        } else {
-            Err(Fault {
-                refusal: Refusal::GrantsOpen,
-                transition: None,
-                spot: None,
-            })
-        }
+        Fault::of_setting(Refusal::GrantsOpen).unless(self.grants.total() == 0)
     }
 
     // What `admit` would answer now.
     pub fn may_admit(&self, r: usize, rule: &TypedRule) -> Result<(), Fault>
-        ensures { result ≡ answer (ledger_of (⟦<Board<P> as Plant>⟧.pile self.now.pile) self.now.grants) (admit r (rule_of rule.now)) }
+        ensures { result ≡ answer (value_of self.now) (admit r (rule_of rule.now)) }
     {
         self.check_none_open()?;
         self.pile.may_set(r, rule)
@@ -39,8 +31,8 @@ impl<P: Plant> Ledger<Board<P>> {
 
     // Sets the row `r` of the board to the rule, while no grant is open.
     pub fn admit(&mut self, r: usize, rule: &TypedRule) -> Result<(), Fault>
-        ensures answer { result ≡ answer (ledger_of (⟦<Board<P> as Plant>⟧.pile self.old.pile) self.old.grants) (admit r (rule_of rule.now)) }
-        ensures after { ledger_of (⟦<Board<P> as Plant>⟧.pile self.new.pile) self.new.grants ≡ next (ledger_of (⟦<Board<P> as Plant>⟧.pile self.old.pile) self.old.grants) (admit r (rule_of rule.now)) }
+        ensures answer { result ≡ answer (value_of self.old) (admit r (rule_of rule.now)) }
+        ensures after { value_of self.new ≡ next (value_of self.old) (admit r (rule_of rule.now)) }
     {
         self.check_none_open()?;
         self.pile.set(r, rule)

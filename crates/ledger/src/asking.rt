@@ -2,44 +2,23 @@
 ghost use Rattle.std.specs.Prelude.{◌≡◌, ℕ, ◌<◌, not};
 ghost use Rattle.model.specs.declared.refusal.Refusal.TheVariants.{Controllable};
 ghost use Rattle.model.specs.Ledger.{grant, commit, cancel, report, answer, crowded, crowded_place, room_answer, grant_checks, is_open};
-ghost use Rattle.model.specs.Plant.{fault_of, known, refuse_unless};
+ghost use Rattle.model.specs.Plant.{fault_of, known, refuse_unless, ◌else_by◌};
 ghost use Rattle.ledger.specs.Grants.{opened};
-ghost use Rattle.ledger.specs.Ledgers.{ledger_of};
+ghost use Rattle.ledger.specs.Values.{value_of};
 
 use crate::ledger::Ledger;
-use model::fault::{Fault, Spot};
+use model::fault::Fault;
 use model::refusal::Refusal;
 use model::sizes::MOST_OPEN;
+use plant::find::lowest;
 use plant::plant::Plant;
-
-// The fault of the move `t`, for no place.
-fn fault(refusal: Refusal, t: usize) -> Fault
-    ensures { result ≡ fault_of refusal t }
-{
-    Fault {
-        refusal,
-        transition: Some(t),
-        spot: None,
-    }
-}
-
-// Accepted if the test holds, else refused for the move `t`.
-fn check(holds: bool, refusal: Refusal, t: usize) -> Result<(), Fault>
-    ensures { result ≡ refuse_unless holds (fault_of refusal t) }
-{
-    if holds {
-        Ok(())
-    } else {
-        Err(fault(refusal, t))
-    }
-}
 
 impl<P: Plant> Ledger<P> {
     // Refused for a missing move.
-    pub(crate) fn check_known(&self, t: usize) -> Result<(), Fault>
+    fn check_known(&self, t: usize) -> Result<(), Fault>
         ensures { result ≡ known (P.Net.net self.now.pile) t }
     {
-        check(t < self.pile.moves(), Refusal::NoMove, t)
+        Fault::of_move(Refusal::NoMove, t).unless(t < self.pile.moves())
     }
 
     // The checks of a grant before any place is looked at.
@@ -47,15 +26,16 @@ impl<P: Plant> Ledger<P> {
         ensures { result ≡ grant_checks (P.Net.net self.now.pile) (opened self.now.grants.counts) t }
     {
         self.check_known(t)?;
-        check(self.pile.controllable(t), Refusal::Uncontrollable, t)?;
-        check(self.grants.total() < MOST_OPEN, Refusal::TooManyOpen, t)
+        Fault::of_move(Refusal::Uncontrollable, t).unless(self.pile.controllable(t))?;
+        Fault::of_move(Refusal::TooManyOpen, t).unless(self.grants.total() < MOST_OPEN)
     }
 
-    // Refused if no grant of the move is open.
+    // Refused for a missing move, and if no grant of the move is open.
     pub(crate) fn check_open(&self, t: usize) -> Result<(), Fault>
-        ensures { result ≡ is_open (opened self.now.grants.counts) t }
+        ensures { result ≡ (known (P.Net.net self.now.pile) t else_by is_open (opened self.now.grants.counts) t) }
     {
-        check(0 < self.grants.of(t), Refusal::NotOpen, t)
+        self.check_known(t)?;
+        Fault::of_move(Refusal::NotOpen, t).unless(0 < self.grants.of(t))
     }
 
     // Whether the place has no room for the move, were it and all open grants settled either way.
@@ -74,38 +54,21 @@ impl<P: Plant> Ledger<P> {
     fn crowded_place(&self, t: usize) -> Option<usize>
         ensures { result ≡ crowded_place (P.Net.net self.now.pile) (P.Plant.tokens self.now.pile) (opened self.now.grants.counts) t }
     {
-        'places: for p in 0..self.pile.places() {
-            if self.is_crowded(p, t) {
-                return Some(p);
-            }
-        }
-        None
+        lowest(self.pile.places(), |p| self.is_crowded(p, t))
     }
 
     // Refused at the lowest place that has no room for the move.
     fn check_room(&self, t: usize) -> Result<(), Fault>
         ensures { result ≡ room_answer (P.Net.net self.now.pile) (P.Plant.tokens self.now.pile) (opened self.now.grants.counts) t }
     {
-        match self.crowded_place(t) {
-            Some(p) => {
-                let spot = Spot {
-                    place: p,
-                    layer: self.pile.layer(p),
-                    row: self.pile.row(p),
-                };
-                Err(Fault {
-                    refusal: Refusal::NoRoom,
-                    transition: Some(t),
-                    spot: Some(spot),
-                })
-            }
-            None => Ok(()),
-        }
+        self.crowded_place(t).map_or(Ok(()), |p| {
+            Err(Fault::at(Refusal::NoRoom, t, self.pile.spot(p)))
+        })
     }
 
     // What `grant` would answer now.
     pub fn may_grant(&self, t: usize) -> Result<(), Fault>
-        ensures { result ≡ answer (ledger_of (P.Plant.pile self.now.pile) self.now.grants) (grant t) }
+        ensures { result ≡ answer (value_of self.now) (grant t) }
     {
         self.check_grant(t)?;
         self.pile.may_begin(t)?;
@@ -114,28 +77,26 @@ impl<P: Plant> Ledger<P> {
 
     // What `commit` would answer now.
     pub fn may_commit(&self, t: usize) -> Result<(), Fault>
-        ensures { result ≡ answer (ledger_of (P.Plant.pile self.now.pile) self.now.grants) (commit t) }
+        ensures { result ≡ answer (value_of self.now) (commit t) }
     {
-        self.check_known(t)?;
         self.check_open(t)?;
         self.pile.may_finish(t)
     }
 
     // What `cancel` would answer now.
     pub fn may_cancel(&self, t: usize) -> Result<(), Fault>
-        ensures { result ≡ answer (ledger_of (P.Plant.pile self.now.pile) self.now.grants) (cancel t) }
+        ensures { result ≡ answer (value_of self.now) (cancel t) }
     {
-        self.check_known(t)?;
         self.check_open(t)?;
         self.pile.may_back(t)
     }
 
     // What `report` would answer now.
     pub fn may_report(&self, t: usize) -> Result<(), Fault>
-        ensures { result ≡ answer (ledger_of (P.Plant.pile self.now.pile) self.now.grants) (report t) }
+        ensures { result ≡ answer (value_of self.now) (report t) }
     {
         self.check_known(t)?;
-        check(!self.pile.controllable(t), Refusal::Controllable, t)?;
+        Fault::of_move(Refusal::Controllable, t).unless(!self.pile.controllable(t))?;
         self.pile.may_begin(t)?;
         self.check_room(t)
     }

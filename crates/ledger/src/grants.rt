@@ -41,7 +41,7 @@ impl Grants {
     pub(crate) fn of(&self, t: usize) -> u32
         ensures { result ≡ opened self.now.counts t }
     {
-        if t < MOST_MOVES { self.counts[t] } else { 0 }
+        self.counts.get(t).copied().unwrap_or(0)
     }
 
     // The open grants of all moves.
@@ -60,6 +60,7 @@ impl Grants {
     }
 
     // One more grant of the move `t`.
+    // Kept: this and `remove` differ in a sign, and so in what they require and promise; one function would have to say both.
     pub(crate) fn add<N: Net>(&mut self, net: &N, t: usize)
         requires tallied { Tallied (N.Net.net net.now) self.old }
         requires there { t < (N.Net.net net.now).moves }
@@ -67,8 +68,9 @@ impl Grants {
         ensures tallied { Tallied (N.Net.net net.now) self.new }
         ensures counts { opened self.new.counts ≡ plus_one (opened self.old.counts) t }
     {
-        'places: for p in 0..net.places() {
-            self.reserved[p] += most_brought(net, p, t);
+        let places = net.places();
+        'places: for (p, reserved) in self.reserved[..places].iter_mut().enumerate() {
+            *reserved += most_brought(net, p, t);
         }
         self.counts[t] += 1;
         self.total += 1;
@@ -82,8 +84,9 @@ impl Grants {
         ensures tallied { Tallied (N.Net.net net.now) self.new }
         ensures counts { opened self.new.counts ≡ minus_one (opened self.old.counts) t }
     {
-        'places: for p in 0..net.places() {
-            self.reserved[p] -= most_brought(net, p, t);
+        let places = net.places();
+        'places: for (p, reserved) in self.reserved[..places].iter_mut().enumerate() {
+            *reserved -= most_brought(net, p, t);
         }
         self.counts[t] -= 1;
         self.total -= 1;

@@ -3,7 +3,7 @@ ghost use Rattle.std.specs.Prelude.{◌≡◌, List, [], ◌∷◌, ◌++◌, If
 ghost use Rattle.model.specs.Layer.{Pile, InForce, Built};
 ghost use Rattle.model.specs.Ledger.{new_ledger, answer, next, answers};
 ghost use Rattle.model.specs.Ledger as model;
-ghost use Rattle.ledger.specs.Ledgers.{ledger_of};
+ghost use Rattle.ledger.specs.Values.{value_of};
 ghost use Rattle.ledger.specs.Calls.{call_of, calls_of, Promised};
 
 use crate::call::Call;
@@ -16,9 +16,9 @@ use std::alloc::{AllocError, Global};
 impl<P: Plant> Ledger<Board<P>> {
     // Makes one call. Whatever calls have been made since the ledger was opened on a pile that can be built, the promise holds after it.
     pub fn make(&mut self, call: &Call) -> Result<(), Fault>
-        ensures answer { result ≡ answer (ledger_of (⟦<Board<P> as Plant>⟧.pile self.old.pile) self.old.grants) (call_of call.now) }
-        ensures after { ledger_of (⟦<Board<P> as Plant>⟧.pile self.new.pile) self.new.grants ≡ next (ledger_of (⟦<Board<P> as Plant>⟧.pile self.old.pile) self.old.grants) (call_of call.now) }
-        ensures promise { (p : Pile) (rs : List InForce) (before : List model.Call) → Built p rs → ledger_of (⟦<Board<P> as Plant>⟧.pile self.old.pile) self.old.grants ≡ model.run (new_ledger p) before → Promised p rs (before ++ call_of call.now ∷ []) (ledger_of (⟦<Board<P> as Plant>⟧.pile self.new.pile) self.new.grants) }
+        ensures answer { result ≡ answer (value_of self.old) (call_of call.now) }
+        ensures after { value_of self.new ≡ next (value_of self.old) (call_of call.now) }
+        ensures promise { (p : Pile) (rs : List InForce) (before : List model.Call) → Built p rs → value_of self.old ≡ model.run (new_ledger p) before → Promised p rs (before ++ call_of call.now ∷ []) (value_of self.new) }
     {
         match *call {
             Call::Grant(t) => self.grant(t),
@@ -35,12 +35,13 @@ impl<P: Plant> Ledger<Board<P>> {
         alloc: Global,
         calls: &[Call],
     ) -> Result<Vec<Result<(), Fault>>, AllocError>
-        ensures answers { IfOk result (λ v. v.items ≡ answers (ledger_of (⟦<Board<P> as Plant>⟧.pile self.old.pile) self.old.grants) (calls_of calls.now)) }
-        ensures after { IfOk result (λ v. ledger_of (⟦<Board<P> as Plant>⟧.pile self.new.pile) self.new.grants ≡ model.run (ledger_of (⟦<Board<P> as Plant>⟧.pile self.old.pile) self.old.grants) (calls_of calls.now)) }
-        ensures promise { IfOk result (λ v. (p : Pile) (rs : List InForce) (before : List model.Call) → Built p rs → ledger_of (⟦<Board<P> as Plant>⟧.pile self.old.pile) self.old.grants ≡ model.run (new_ledger p) before → Promised p rs (before ++ calls_of calls.now) (ledger_of (⟦<Board<P> as Plant>⟧.pile self.new.pile) self.new.grants)) }
+        ensures answers { IfOk result (λ v. v.items ≡ answers (value_of self.old) (calls_of calls.now)) }
+        ensures after { IfOk result (λ v. value_of self.new ≡ model.run (value_of self.old) (calls_of calls.now)) }
+        ensures promise { IfOk result (λ v. (p : Pile) (rs : List InForce) (before : List model.Call) → Built p rs → value_of self.old ≡ model.run (new_ledger p) before → Promised p rs (before ++ calls_of calls.now) (value_of self.new)) }
         ensures no_memory { OnErr result (self.new ≡ self.old) }
     {
         let mut answers = Vec::with_capacity(alloc, calls.len())?;
+        // Kept: the room for all answers is there before any call is made; a `collect` could fail after some of them.
         'calls: for call in calls {
             answers.push_reserved(self.make(call));
         }

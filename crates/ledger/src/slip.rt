@@ -2,7 +2,7 @@
 ghost use Rattle.std.specs.Prelude.{◌≡◌, ℕ, false, true, IfOk, if◌then◌else◌};
 ghost use Rattle.model.specs.Ledger.{grant, commit, cancel, answer, next};
 ghost use Rattle.layers.specs.Setting.{plain};
-ghost use Rattle.ledger.specs.Ledgers.{ledger_of};
+ghost use Rattle.ledger.specs.Values.{value_of};
 
 use crate::ledger::Ledger;
 use model::fault::Fault;
@@ -10,6 +10,7 @@ use plant::plant::Plant;
 
 // A slip for one open grant of a move. It may be let go only when it is spent, and only `commit_slip` and `cancel_slip` spend it: so
 // on each way out the driver commits or cancels.
+// Kept: the project asks for a slip whose `drop` requires that it be spent, and only a flag can say so of a slip that is let go.
 pub struct Slip {
     transition: usize,
     spent: bool,
@@ -47,8 +48,8 @@ impl Slip {
 impl<P: Plant> Ledger<P> {
     // Grants the move `t` to a driver, who gets a slip for it.
     pub fn claim(&mut self, t: usize) -> Result<Slip, Fault>
-        ensures answer { plain result ≡ answer (ledger_of (P.Plant.pile self.old.pile) self.old.grants) (grant t) }
-        ensures after { ledger_of (P.Plant.pile self.new.pile) self.new.grants ≡ next (ledger_of (P.Plant.pile self.old.pile) self.old.grants) (grant t) }
+        ensures answer { plain result ≡ answer (value_of self.old) (grant t) }
+        ensures after { value_of self.new ≡ next (value_of self.old) (grant t) }
         ensures slip { IfOk result (λ s. s.transition ≡ t) }
         ensures unspent { IfOk result (λ s. s.spent ≡ false) }
     {
@@ -61,28 +62,29 @@ impl<P: Plant> Ledger<P> {
 
     // Commits the grant of the slip, which is used up even where the commit is refused.
     pub fn commit_slip(&mut self, slip: Slip) -> Result<(), Fault>
-        ensures answer { result ≡ answer (ledger_of (P.Plant.pile self.old.pile) self.old.grants) (commit slip.transition) }
-        ensures after { ledger_of (P.Plant.pile self.new.pile) self.new.grants ≡ next (ledger_of (P.Plant.pile self.old.pile) self.old.grants) (commit slip.transition) }
+        ensures answer { result ≡ answer (value_of self.old) (commit slip.transition) }
+        ensures after { value_of self.new ≡ next (value_of self.old) (commit slip.transition) }
     {
         self.commit(slip.spend())
     }
 
     // Cancels the grant of the slip, which is used up even where the cancel is refused.
     pub fn cancel_slip(&mut self, slip: Slip) -> Result<(), Fault>
-        ensures answer { result ≡ answer (ledger_of (P.Plant.pile self.old.pile) self.old.grants) (cancel slip.transition) }
-        ensures after { ledger_of (P.Plant.pile self.new.pile) self.new.grants ≡ next (ledger_of (P.Plant.pile self.old.pile) self.old.grants) (cancel slip.transition) }
+        ensures answer { result ≡ answer (value_of self.old) (cancel slip.transition) }
+        ensures after { value_of self.new ≡ next (value_of self.old) (cancel slip.transition) }
     {
         self.cancel(slip.spend())
     }
 
     // A driver's move from claim to end: it is committed if it was made, else cancelled.
     pub fn settle(&mut self, slip: Slip, made: bool) -> Result<(), Fault>
-        ensures answer { result ≡ answer (ledger_of (P.Plant.pile self.old.pile) self.old.grants) (if made then commit slip.transition else cancel slip.transition) }
-        ensures after { ledger_of (P.Plant.pile self.new.pile) self.new.grants ≡ next (ledger_of (P.Plant.pile self.old.pile) self.old.grants) (if made then commit slip.transition else cancel slip.transition) }
+        ensures answer { result ≡ answer (value_of self.old) (if made then commit slip.transition else cancel slip.transition) }
+        ensures after { value_of self.new ≡ next (value_of self.old) (if made then commit slip.transition else cancel slip.transition) }
     {
-        if !made {
-            return self.cancel_slip(slip);
+        if made {
+            self.commit_slip(slip)
+        } else {
+            self.cancel_slip(slip)
         }
-        self.commit_slip(slip)
     }
 }

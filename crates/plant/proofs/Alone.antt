@@ -2,7 +2,7 @@
 use Rattle.std.proofs.Common.{◌≡◌, ℕ, ◌+◌, ◌-◌, Bool, true, false, cond, sym, refl, ap, ◌∙◌}
 use Rattle.model.specs.Net.{Net}
 use Rattle.model.specs.Plant.{Answer, accepted, begin_answer, finish_answer, back_answer, begun, finished, gone_back}
-use Rattle.model.specs.Layer.{Row, blank, plant, plant_alone, pile_begun, pile_finished, pile_gone_back, rows_begun, rows_finished, rows_gone_back}
+use Rattle.model.specs.Layer.{Row, plant, plant_alone, pile_begun, pile_finished, pile_gone_back, rows_begun, rows_finished, rows_gone_back}
 use Rattle.model.proofs.Blank.{no_rows, blank_begun, blank_finished, blank_gone_back}
 
 -- moved if the test holds, else as it was

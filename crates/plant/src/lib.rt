@@ -1,5 +1,6 @@
 // Nets and plants: what everything above them reads and calls.
 #![tactic(auto)]
 
+pub mod find;
 pub mod net;
 pub mod plant;

@@ -2,6 +2,8 @@
 ghost use Rattle.std.specs.Prelude.{◌≡◌, ℕ, ◌≤◌};
 ghost use Rattle.model.specs.Net.{Net as NetValue, Ranges};
 
+use model::fault::Spot;
+
 // What is told of a net. Places and moves count from 0; the numbers of a missing one are 0, and a missing move is uncontrollable.
 pub trait Net {
     // the net, by value
@@ -39,6 +41,17 @@ pub trait Net {
 
     fn row(&self, p: usize) -> usize
         ensures { result ≡ (net self.now).row p };
+
+    // The place `p`, with its layer and its row.
+    final fn spot(&self, p: usize) -> Spot
+        ensures { result ≡ record { place = p; layer = (net self.now).layer p; row = (net self.now).row p } }
+    {
+        Spot {
+            place: p,
+            layer: self.layer(p),
+            row: self.row(p),
+        }
+    }
 
     ghost sound: { (s : Self) → Ranges (net s) };
 

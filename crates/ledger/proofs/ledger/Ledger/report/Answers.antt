@@ -1,23 +1,26 @@
-use Rattle.std.proofs.Common.{ap, ◌∙◌}
+use Rattle.std.proofs.Common.{◌≡◌, Ok, ◌∙◌, ap, if◌then◌else◌}
+use Rattle.model.specs.Plant.{Answer, accepted}
 use Rattle.model.specs.Layer.{pile_finished}
 use Rattle.model.specs.Ledger.{report}
-use Rattle.model.proofs.Checks.{err_not_ok}
 use Rattle.ledger.specs.Ledgers.{ledger_of}
+use Rattle.ledger.specs.Values.{value_of}
 use Rattle.ledger.proofs.Asked.{report_finishes, next_done}
 use Rattle.ledger.proofs.ledger.Ledger.report.Goals as goal
 
-pub returns-in_err-finish-clause-answer : goal.returns-in_err-finish-clause-answer
-returns-in_err-finish-clause-answer g c =
+pub returns-clause-answer : goal.returns-clause-answer
+returns-clause-answer g c =
     let s = g.met.P.Plant.stacked c.args.self.now.pile in
-    absurd (err_not_ok _ (c.in_err-finish.ensures.answer ∙ report_finishes (g.P.Plant.pile c.args.self.now.pile) (g.P.Net.net c.args.self.now.pile) (g.P.Plant.tokens c.args.self.now.pile) c.args.self.now.grants c.args.t s.0 s.1 _ _ c.begin.ensures.same c.begin.ensures.after c.in_ok-may_report.ensures))
-
-pub returns-in_err-finish-clause-after : goal.returns-in_err-finish-clause-after
-returns-in_err-finish-clause-after g c =
-    let s = g.met.P.Plant.stacked c.args.self.now.pile in
-    absurd (err_not_ok _ (c.in_err-finish.ensures.answer ∙ report_finishes (g.P.Plant.pile c.args.self.now.pile) (g.P.Net.net c.args.self.now.pile) (g.P.Plant.tokens c.args.self.now.pile) c.args.self.now.grants c.args.t s.0 s.1 _ _ c.begin.ensures.same c.begin.ensures.after c.in_ok-may_report.ensures))
+    c.finish.ensures.answer
+    ∙ report_finishes (g.P.Plant.pile c.args.self.now.pile) (g.P.Net.net c.args.self.now.pile) (g.P.Plant.tokens c.args.self.now.pile) c.args.self.now.grants c.args.t s.0 s.1 _ _ c.begin.ensures.same c.begin.ensures.after c.in_ok-may_report.ensures
+    ∙ c.in_ok-may_report.ensures
 
 pub returns-clause-after : goal.returns-clause-after
 returns-clause-after g c =
-    let l = ledger_of (g.P.Plant.pile c.args.self.now.pile) c.args.self.now.grants in
-    ap (λ p. ledger_of p c.args.self.now.grants) (c.in_ok-finish.ensures.whole ∙ ap (λ p. pile_finished p c.args.t) c.in_ok-begin.ensures.whole)
-    ∙ next_done l (report c.args.t) c.in_ok-may_report.ensures
+    let s = g.met.P.Plant.stacked c.args.self.now.pile in
+    let e : c.finish.result ≡ Ok tt = c.finish.ensures.answer
+    ∙ report_finishes (g.P.Plant.pile c.args.self.now.pile) (g.P.Net.net c.args.self.now.pile) (g.P.Plant.tokens c.args.self.now.pile) c.args.self.now.grants c.args.t s.0 s.1 _ _ c.begin.ensures.same c.begin.ensures.after c.in_ok-may_report.ensures in
+    ap (λ p. ledger_of p c.args.self.now.grants)
+    (c.finish.ensures.whole
+    ∙ ap (λ (a : Answer). if accepted a then pile_finished (g.P.Plant.pile c.begin.new.self) c.args.t else g.P.Plant.pile c.begin.new.self) e
+    ∙ ap (λ p. pile_finished p c.args.t) c.in_ok-begin.ensures.whole)
+    ∙ next_done (value_of c.args.self.now) (report c.args.t) c.in_ok-may_report.ensures
