@@ -5,14 +5,12 @@ use Rattle.std.specs.List.{prefix_len}
 use Rattle.formats.specs.declared.fault.TextFault.{TextFault}
 use Rattle.formats.specs.Words.{is_not, fields, lines}
 use Rattle.formats.specs.Texts.{Check, first_failed, unless, read_lines}
-use Rattle.formats.specs.NetText.{names, place_names}
+use Rattle.formats.specs.NetText.{NetText, names, place_names}
 use Rattle.formats.specs.RulesText as said
 use Rattle.formats.specs.RulesText.{RuleShape, rule_shape, checks_of, after_rule, rules_reader, read_rules}
 use Rattle.formats.specs.RulesText.RuleShape.{a_fixed, a_rule, neither}
 use Rattle.formats.proofs.Bridges.{read_at}
 use Rattle.formats.proofs.RulesLaws.{rules_exact, rules_refusals}
-use Rattle.net_text.specs.declared.net.NetText.{NetText}
-use Rattle.net_text.specs.Nets.{net_of}
 use Rattle.texts.specs.declared.span.Span.{Span}
 use Rattle.texts.specs.declared.stop.ReadError.{ReadError}
 use Rattle.texts.specs.declared.stop.ReadError.TheVariants.{Refused, NoMemory}
@@ -59,37 +57,37 @@ module _ (taken ps : List (List ℕ)) (bs : List ℕ) (e : ℕ) (end : e ≡ 0 +
   first_stands = line_stands bs 0 e (omega arith) (omega arith)
 
 -- ---- what an answer means
-module _ (nbs : List ℕ) (net : NetText) (bs : List ℕ) where
+module _ (net : NetText) (bs : List ℕ) where
   abbrev taken : List (List ℕ)
-  taken = names (net_of nbs net)
+  taken = names net
 
   abbrev ps : List (List ℕ)
-  ps = place_names (net_of nbs net)
+  ps = place_names net
 
-  pub accepts : length (vec_items net.places) ≤ 32 → (y : RulesText) (x : said.RulesText) → read_rules taken ps bs ≡ Ok x → RulesSay bs y x → Located bs y → RulesRead nbs net bs (Ok y)
+  pub accepts : length net.places ≤ 32 → (y : RulesText) (x : said.RulesText) → read_rules taken ps bs ≡ Ok x → RulesSay bs y x → Located bs y → RulesRead net bs (Ok y)
   accepts few y x e says w =
       record {
         crowded = λ h. omega (arith, h, few);
         answer = λ h. (x, e, says);
-        accepted = λ p. let a = (rules_exact (net_of nbs net) p.right bs x).0 e in (x, a.0, a.1, says);
-        refused = λ p f h. let q = (rules_refusals (net_of nbs net) p.right bs f).1 h in let z : ◌≡◌ {A = ℕ} 0 1 = cc in omega arith;
+        accepted = λ p. let a = (rules_exact net p.right bs x).0 e in (x, a.0, a.1, says);
+        refused = λ p f h. let q = (rules_refusals net p.right bs f).1 h in let z : ◌≡◌ {A = ℕ} 0 1 = cc in omega arith;
         located = w;
       }
 
-  pub refuses : length (vec_items net.places) ≤ 32 → (f : TextFault) → read_rules taken ps bs ≡ Err f → RulesRead nbs net bs (Err (Refused f))
+  pub refuses : length net.places ≤ 32 → (f : TextFault) → read_rules taken ps bs ≡ Err f → RulesRead net bs (Err (Refused f))
   refuses few f e =
       record {
         crowded = λ h. absurd (omega (arith, h, few));
         answer = λ h. e;
-        accepted = λ p x q w. let r = (rules_exact (net_of nbs net) p.right bs x).1 q w in let z : ◌≡◌ {A = ℕ} 0 1 = cc in omega arith;
-        refused = λ p. ((rules_refusals (net_of nbs net) p.right bs f).0 e, λ g h. let q = (rules_refusals (net_of nbs net) p.right bs g).1 h in cc);
+        accepted = λ p x q w. let r = (rules_exact net p.right bs x).1 q w in let z : ◌≡◌ {A = ℕ} 0 1 = cc in omega arith;
+        refused = λ p. ((rules_refusals net p.right bs f).0 e, λ g h. let q = (rules_refusals net p.right bs g).1 h in cc);
         located = tt;
       }
 
-  pub gives_up : RulesRead nbs net bs (Err NoMemory)
+  pub gives_up : RulesRead net bs (Err NoMemory)
   gives_up = record { crowded = λ h. tt; answer = λ h. tt; accepted = λ p. tt; refused = λ p. tt; located = tt }
 
   -- an error of the lines after the first
-  pub lines_refused : length (vec_items net.places) ≤ 32 → (r : ReadError) (P : Unit {0} → Type 0) (whole : Result said.RulesText TextFault) → read_rules taken ps bs ≡ whole → Told (Err r) P (λ f. whole ≡ Err f) → RulesRead nbs net bs (Err r)
+  pub lines_refused : length net.places ≤ 32 → (r : ReadError) (P : Unit {0} → Type 0) (whole : Result said.RulesText TextFault) → read_rules taken ps bs ≡ whole → Told (Err r) P (λ f. whole ≡ Err f) → RulesRead net bs (Err r)
   lines_refused few (Refused f) P whole e h = refuses few f (e ∙ h)
   lines_refused few NoMemory P whole e h = gives_up

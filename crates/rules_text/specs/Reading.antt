@@ -10,7 +10,7 @@
 --   Placed             rules are located, and so is the line that comes next
 --   Locates            a line keeps the names located
 --   LinesRead          what the lines from byte s on do to read rules
---   RulesRead nbs net bs r    r is what the rules text bs says of the net that was read from nbs
+--   RulesRead net bs r r is what the rules text bs says of the net
 --   Stands bs s l      the name of the line l stands in the text bs as a part of the line that starts at s
 use Rattle.std.specs.Prelude.{◌≡◌, ℕ, ◌+◌, ◌<◌, ◌≤◌, cond, List, ◌++◌, length, take, drop, ℤ, pos, Some, None, Ok, Err, Option, Result, ◌≢◌, vec_items, slice_index_or}
 use Rattle.model.specs.Sizes.{bound_digits, most_places}
@@ -19,7 +19,7 @@ use Rattle.formats.specs.Words.{is_numeral, value, lines, unlines}
 use Rattle.formats.specs.declared.fault.TextFault.{TextFault}
 use Rattle.formats.specs.Texts.{first_failed, unless, fault, read_lines, Proper, written}
 use Rattle.formats.specs.Texts.{Refused as Wrong}
-use Rattle.formats.specs.NetText.{names, place_names}
+use Rattle.formats.specs.NetText.{NetText, names, place_names}
 use Rattle.formats.specs.NetClauses.{net_meaning}
 use Rattle.formats.specs.Sums.{terms, sum_of}
 use Rattle.formats.specs.RulesText as said
@@ -27,8 +27,6 @@ use Rattle.formats.specs.RulesText.{RuleShape, is_bound, bound_of, line_checks, 
 use Rattle.formats.specs.RulesText.RuleShape.{a_fixed, a_rule, neither}
 use Rattle.texts.specs.Spans.{span, checked, Told, line_start}
 use Rattle.texts.specs.declared.stop.ReadError.{ReadError}
-use Rattle.net_text.specs.declared.net.NetText.{NetText}
-use Rattle.net_text.specs.Nets.{net_of}
 use Rattle.rules_text.specs.declared.rule.RuleLine.{RuleLine}
 use Rattle.rules_text.specs.declared.rule.RulesText.{RulesText}
 use Rattle.rules_text.specs.Sums.{Weighs}
@@ -94,23 +92,23 @@ LinesRead taken ps bs n n' k s r =
     (λ f. read_lines (rules_reader taken ps) (Some x) k s (lines (drop s bs)) ≡ Err f)
 
 -- r is what the text bs says of the net: by the order of checks, and in the format's own terms
-pub record RulesRead (nbs : List ℕ) (net : NetText) (bs : List ℕ) (r : Result RulesText ReadError) : Type 0 where
+pub record RulesRead (net : NetText) (bs : List ℕ) (r : Result RulesText ReadError) : Type 0 where
   -- a net of more places than there may be, which no net text says, has no rules
-  pub crowded : most_places < length (vec_items net.places) → Told r (λ y. ⊥) (λ f. f ≡ fault TooMany 0 0)
+  pub crowded : most_places < length net.places → Told r (λ y. ⊥) (λ f. f ≡ fault TooMany 0 0)
   -- the answer that the order of checks gives
-  pub answer : length (vec_items net.places) ≤ most_places
-      → Told r (λ y. (x : said.RulesText) × (read_rules (names (net_of nbs net)) (place_names (net_of nbs net)) bs ≡ Ok x) × RulesSay bs y x)
-      (λ f. read_rules (names (net_of nbs net)) (place_names (net_of nbs net)) bs ≡ Err f)
+  pub answer : length net.places ≤ most_places
+      → Told r (λ y. (x : said.RulesText) × (read_rules (names net) (place_names net) bs ≡ Ok x) × RulesSay bs y x)
+      (λ f. read_rules (names net) (place_names net) bs ≡ Err f)
   -- rules are answered just where they are proper and the text is those rules written down
-  pub accepted : Proper net_meaning (net_of nbs net)
-      → Told r (λ y. (x : said.RulesText) × Proper (rules_meaning (names (net_of nbs net)) (place_names (net_of nbs net))) x
-      × (bs ≡ written (rules_meaning (names (net_of nbs net)) (place_names (net_of nbs net))) x) × RulesSay bs y x)
-      (λ f. (x : said.RulesText) → Proper (rules_meaning (names (net_of nbs net)) (place_names (net_of nbs net))) x
-      → bs ≢ written (rules_meaning (names (net_of nbs net)) (place_names (net_of nbs net))) x)
+  pub accepted : Proper net_meaning net
+      → Told r (λ y. (x : said.RulesText) × Proper (rules_meaning (names net) (place_names net)) x
+      × (bs ≡ written (rules_meaning (names net) (place_names net)) x) × RulesSay bs y x)
+      (λ f. (x : said.RulesText) → Proper (rules_meaning (names net) (place_names net)) x
+      → bs ≢ written (rules_meaning (names net) (place_names net)) x)
   -- a text is refused just for the first thing that is wrong with it
-  pub refused : Proper net_meaning (net_of nbs net)
-      → Told r (λ y. (f : TextFault) → Wrong (rules_meaning (names (net_of nbs net)) (place_names (net_of nbs net))) bs f → ⊥)
-      (λ f. Wrong (rules_meaning (names (net_of nbs net)) (place_names (net_of nbs net))) bs f
-      × ((g : TextFault) → Wrong (rules_meaning (names (net_of nbs net)) (place_names (net_of nbs net))) bs g → g ≡ f))
+  pub refused : Proper net_meaning net
+      → Told r (λ y. (f : TextFault) → Wrong (rules_meaning (names net) (place_names net)) bs f → ⊥)
+      (λ f. Wrong (rules_meaning (names net) (place_names net)) bs f
+      × ((g : TextFault) → Wrong (rules_meaning (names net) (place_names net)) bs g → g ≡ f))
   -- each name is the part of the text where its line has it
   pub located : Told r (λ y. Located bs y) (λ f. Unit {0})
