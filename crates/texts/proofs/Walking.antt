@@ -73,6 +73,22 @@ stands bs i here l rest ends e =
       next = sym (sym (drop-drop 1 i (numbered_lines bs)) ∙ ap (drop 1) e);
     }
 
+-- the first line of a text
+pub first_at : (bs : List ℕ) (here : At) (l : List ℕ) (rest : List (At × List ℕ)) → numbered_lines bs ≡ (here, l) ∷ rest → line_at 1 0 ≡ here
+first_at bs here l rest e = go (lines bs) e
+  where
+    go : (ls : List (List ℕ)) → numbered (line_at 1 0) ls ≡ (here, l) ∷ rest → line_at 1 0 ≡ here
+    go [] q = let n = ap length q in absurd (omega (arith, n))
+    go (m ∷ ms) q = let p : (line_at 1 0, m) ≡ (here, l) = cc in ap (λ (x : At × List ℕ). x.0) p
+
+-- a text has a line
+pub some_line : (bs : List ℕ) → 0 < length bs → last bs ≡ 10 → numbered_lines bs ≡ [] → ⊥
+some_line bs some ends e = go (lines bs) e (ap length (unlines_lines bs ends))
+  where
+    go : (ls : List (List ℕ)) → numbered (line_at 1 0) ls ≡ [] → length (unlines ls) ≡ length bs → ⊥
+    go [] q n = omega arith
+    go (m ∷ ms) q n = let k = ap length q in omega (arith, k)
+
 -- ---- what a reader answers for the lines
 on_numbered : {X : Type 0} (R : Reader X) (s : Option X) (n : ℕ) (at : At) (ls : List (List ℕ)) → n ≡ at.byte + length (unlines ls) → read_lines R s at.line at.byte ls ≡ read_on R s n (numbered at ls)
 on_numbered R s n at [] e = ap (ended R s) (omega arith)
