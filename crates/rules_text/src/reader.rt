@@ -1,12 +1,13 @@
 // The reader of the rules text.
-ghost use Rattle.std.specs.Prelude.{◌≡◌, ◌+◌, ◌≤◌, ◌++◌, length, nat_lt, vec_len, OnOk};
+ghost use Rattle.std.specs.Prelude.{◌≡◌, ◌+◌, ◌++◌, length, drop, nat_lt, vec_len, OnOk};
 ghost use Rattle.model.specs.Sizes.{most_rules};
 ghost use Rattle.formats.specs.Words.{is_new};
 ghost use Rattle.formats.specs.NetText.{names, place_names};
 ghost use Rattle.formats.specs.RulesText.RuleShape.{a_rule};
 ghost use Rattle.texts.specs.Lines.{rule_shape_of};
+ghost use Rattle.texts.specs.Walking.{numbered_lines, lines_left};
 ghost use Rattle.rules_text.specs.Rules.{rule_titles};
-ghost use Rattle.rules_text.specs.Reading.{Step, Stands, Located, Locates, Placed, LinesRead, RulesRead};
+ghost use Rattle.rules_text.specs.Reading.{Step, Stands, Located, Locates, LinesRead, RulesRead};
 
 use crate::names::NamedRules;
 use crate::read::RulesReader;
@@ -19,7 +20,7 @@ use texts::at::At;
 use texts::lines::{check_text, read_line};
 use texts::record::Record;
 use texts::stop::ReadError;
-use texts::words::until;
+use texts::walk::Lines;
 
 // Whether there may be one more rule.
 fn rule_fits(rules: &RulesText) -> bool
@@ -72,22 +73,16 @@ impl RulesReader<'_> {
         }
     }
 
-    // Reads the lines from `at` to the end of the text.
-    fn read_lines(&self, rules: &mut RulesText, at: At) -> Result<(), ReadError>
-        requires within { (at.byte ≤ length self.now.text.now) × (at.line ≤ at.byte + 1) }
-        ensures answer { LinesRead (names self.now.net.now) (place_names self.now.net.now) self.now.text.now rules.old rules.new at.line at.byte result }
-        ensures located { OnOk result (Placed self.now.text.now rules.old at.byte → Located self.now.text.now rules.new) }
+    // Reads the lines that are still to come.
+    fn read_lines(&self, rules: &mut RulesText, lines: Lines<'_>) -> Result<(), ReadError>
+        requires to_come { lines_left lines ≡ drop (length rules.old.others.items + 1) (numbered_lines self.now.text.now) }
+        requires located { Located self.now.text.now rules.old }
+        ensures answer { LinesRead (names self.now.net.now) (place_names self.now.net.now) self.now.text.now rules.old rules.new (lines_left lines.entry) result }
+        ensures located { OnOk result (Located self.now.text.now rules.new) }
     {
-        let text = self.text;
-        let mut line = at.line;
-        let mut start = at.byte;
-        'lines: while start < text.len() {
-            let here = At { line, byte: start };
-            let end = until(text, start, b'\n');
-            let read = read_line(&text[start..end], here)?;
-            self.add_record(rules, here, read)?;
-            line += 1;
-            start = end + 1;
+        for (at, line) in lines {
+            let read = read_line(line, at)?;
+            self.add_record(rules, at, read)?;
         }
         Ok(())
     }
@@ -103,19 +98,16 @@ pub fn read_rules(alloc: Global, net: &NamedNet, text: &[u8]) -> Result<RulesTex
         return Err(ReadError::Refused(whole.fault(Refusal::TooMany, 0)));
     }
     check_text(text)?;
+    let mut lines = Lines::new(text);
+    let Some((at, first)) = lines.next() else {
+        unreachable!();
+    };
     let reader = RulesReader { net, text };
-    let end = until(text, 0, b'\n');
-    let fixed = reader.read_fixed(&text[0..end], At { line: 1, byte: 0 })?;
+    let fixed = reader.read_fixed(first, at)?;
     let mut rules = RulesText {
         fixed,
         others: Vec::new(alloc),
     };
-    reader.read_lines(
-        &mut rules,
-        At {
-            line: 2,
-            byte: end + 1,
-        },
-    )?;
+    reader.read_lines(&mut rules, lines)?;
     Ok(rules)
 }
