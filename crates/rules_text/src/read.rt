@@ -33,6 +33,18 @@ pub(crate) struct RulesReader<'a> {
     ghost ended: { last text.now ≡ 10 },
 }
 
+// The fields of a rule on the line `at`, the first of which starts at `byte`.
+#[derive(Clone, Copy)]
+pub(crate) struct RuleFields<'a> {
+    pub at: At,
+    pub byte: usize,
+    pub name: &'a [u8],
+    pub sum: &'a [u8],
+    pub bound: &'a [u8],
+    // the bytes of the text up to the start of the bound can be counted
+    ghost in_text: { byte + length name.now + 1 + length sum.now + 1 < 2 ^ 64 },
+}
+
 // The number that the field writes, if it has no more digits than a bound.
 fn whole(field: &[u8]) -> Option<i32>
     ensures value { result ≡ whole_said field.now }
@@ -62,34 +74,26 @@ fn read_bound(field: &[u8], at: At, byte: usize) -> Result<i32, TextFault>
 }
 
 impl RulesReader<'_> {
-    // The rule that the fields of a line say, the first of which starts at `byte`; `new` tells whether nothing has its name yet.
-    pub(crate) fn read_rule(
-        &self,
-        at: At,
-        byte: usize,
-        new: bool,
-        name: &[u8],
-        sum: &[u8],
-        bound: &[u8],
-    ) -> Result<RuleLine, TextFault>
-        requires line_bound { byte + length name.now + 1 + length sum.now + 1 < 2 ^ 64 }
-        ensures { (used : List (List ℕ)) → new ≡ is_new used name.now → LineRead used (place_names self.now.net.now) at.line byte name.now sum.now bound.now result }
+    // The rule that the fields say; `new` tells whether nothing has its name yet.
+    pub(crate) fn read_rule(&self, fields: &RuleFields, new: bool) -> Result<RuleLine, TextFault>
+        ensures { (used : List (List ℕ)) → new ≡ is_new used fields.now.name.now → LineRead used (place_names self.now.net.now) fields.now.at.line fields.now.byte fields.now.name.now fields.now.sum.now fields.now.bound.now result }
     {
-        at.check(is_name(name), Refusal::Field, byte)?;
-        at.check(new, Refusal::NameTaken, byte)?;
-        let sum_at = byte + name.len() + 1;
-        let weights = SumReader {
+        let at = fields.at;
+        at.check(is_name(fields.name), Refusal::Field, fields.byte)?;
+        at.check(new, Refusal::NameTaken, fields.byte)?;
+        let sum_at = fields.byte + fields.name.len() + 1;
+        let sum = SumReader {
             net: self.net,
-            sum,
+            sum: fields.sum,
             at,
             byte: sum_at,
-        }
-        .read_sum()?;
-        let bound = read_bound(bound, at, sum_at + sum.len() + 1)?;
+        };
+        let weights = sum.read_sum()?;
+        let bound = read_bound(fields.bound, at, sum_at + fields.sum.len() + 1)?;
         Ok(RuleLine {
             name: Span {
-                start: byte,
-                len: name.len(),
+                start: fields.byte,
+                len: fields.name.len(),
             },
             weights,
             bound,
@@ -103,8 +107,14 @@ impl RulesReader<'_> {
     {
         match read_line(line, at)? {
             Record::Fixed { name, sum, bound } => {
-                let new = self.net.is_new(name);
-                self.read_rule(at, at.byte + 6, new, name, sum, bound)
+                let fields = RuleFields {
+                    at,
+                    byte: at.byte + 6,
+                    name,
+                    sum,
+                    bound,
+                };
+                self.read_rule(&fields, self.net.is_new(name))
             }
             _ => Err(at.fault(Refusal::NoRecord, at.byte)),
         }

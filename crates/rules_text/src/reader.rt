@@ -10,7 +10,7 @@ ghost use Rattle.rules_text.specs.Rules.{rule_titles};
 ghost use Rattle.rules_text.specs.Reading.{Step, Stands, Located, Locates, LinesRead, RulesRead};
 
 use crate::names::NamedRules;
-use crate::read::RulesReader;
+use crate::read::{RuleFields, RulesReader};
 use crate::rule::RulesText;
 use model::refusal::Refusal;
 use model::sizes::{MOST_PLACES, MOST_RULES};
@@ -55,8 +55,14 @@ impl RulesReader<'_> {
         ensures located { OnOk result (Locates self.now.text.now rules.old rules.new at.byte) }
     {
         at.check(rule_fits(rules), Refusal::TooMany, at.byte)?;
-        let new = self.is_new(rules, name);
-        let rule = self.read_rule(at, at.byte + 5, new, name, sum, bound)?;
+        let fields = RuleFields {
+            at,
+            byte: at.byte + 5,
+            name,
+            sum,
+            bound,
+        };
+        let rule = self.read_rule(&fields, self.is_new(rules, name))?;
         rules.others.push(rule)?;
         Ok(())
     }

@@ -25,13 +25,13 @@ returns-in_err-rule-clause-step c = λ x says.
     let room : ltb (vec_len c.args.rules.now.others) 12 ≡ true = sym c.rule_fits.ensures ∙ passed _ _ _ _ _ _ c.in_ok-check.ensures in
     rw (p.1, p.2)
     (line_refused (names net) (place_names net) c.args.self.now.text.now c.args.rules.now c.args.at.line c.args.at.byte c.args.name.now c.args.sum.now c.args.bound.now x says room _
-    (c.in_err-rule.ensures (names net ++ rule_titles c.args.self.now.text.now c.args.rules.now) c.is_new-new.ensures))
+    (c.in_err-rule.ensures (names net ++ rule_titles c.args.self.now.text.now c.args.rules.now) c.is_new.ensures))
 
 pub returns : goal.returns
 returns c =
     let net = c.args.self.now.net.now in
     let room : ltb (vec_len c.args.rules.now.others) 12 ≡ true = sym c.rule_fits.ensures ∙ passed _ _ _ _ _ _ c.in_ok-check.ensures in
-    let read = c.in_ok-rule.ensures (names net ++ rule_titles c.args.self.now.text.now c.args.rules.now) c.is_new-new.ensures in
+    let read = c.in_ok-rule.ensures (names net ++ rule_titles c.args.self.now.text.now c.args.rules.now) c.is_new.ensures in
     record {
       step = λ x says.
           rule_added (names net) (place_names net) c.args.self.now.text.now c.args.rules.now c.args.at.line c.args.at.byte c.args.name.now c.args.sum.now c.args.bound.now x says room

@@ -2,12 +2,12 @@ use Rattle.std.proofs.Common.{arith}
 use Rattle.rules_text.proofs.Standing.{fixed_length}
 use Rattle.rules_text.proofs.read.RulesReader.read_fixed.Goals as goal
 
-pub overflow_add-at : goal.overflow_add-at
-overflow_add-at c =
+pub overflow_add-fields : goal.overflow_add-fields
+overflow_add-fields c =
     let l = fixed_length c.args.line.now c.in-Fixed.name.now c.in-Fixed.sum.now c.in-Fixed.bound.now (rw c.in-Fixed.is at c.in_ok-name.ensures).1 in
     omega arith
 
-pub read_rule-requires : goal.read_rule-requires
-read_rule-requires c =
+pub invariant_of-fields : goal.invariant_of-fields
+invariant_of-fields c =
     let l = fixed_length c.args.line.now c.in-Fixed.name.now c.in-Fixed.sum.now c.in-Fixed.bound.now (rw c.in-Fixed.is at c.in_ok-name.ensures).1 in
-    record { line_bound = omega arith }
+    omega arith

@@ -11,25 +11,25 @@ pub returns-in_err-weights : goal.returns-in_err-weights
 returns-in_err-weights c = λ used e.
     let p = err_from_is_err_and c.from_residual-in_err-weights.result c.from_residual-in_err-weights.ensures.1 in
     let ps = place_names c.args.self.now.net.now in
-    let named : is_name c.args.name.now ≡ true = sym c.is_name.ensures ∙ passed _ _ _ _ _ _ c.in_ok-check.ensures in
-    let new : is_new used c.args.name.now ≡ true = sym e ∙ passed _ _ _ _ _ _ c.in_ok-check-2.ensures in
+    let named : is_name c.args.fields.now.name.now ≡ true = sym c.is_name.ensures ∙ passed _ _ _ _ _ _ c.in_ok-check.ensures in
+    let new : is_new used c.args.fields.now.name.now ≡ true = sym e ∙ passed _ _ _ _ _ _ c.in_ok-check-2.ensures in
     rw (p.1, p.2)
-    (sum_refused used ps c.args.byte c.args.at.line c.args.name.now c.args.sum.now c.args.bound.now named new _ c.in_err-weights.ensures)
+    (sum_refused used ps c.args.fields.now.byte c.args.fields.now.at.line c.args.fields.now.name.now c.args.fields.now.sum.now c.args.fields.now.bound.now named new _ c.in_err-weights.ensures)
 
 pub returns-in_err-bound : goal.returns-in_err-bound
 returns-in_err-bound c = λ used e.
     let p = err_from_is_err_and c.from_residual-in_err-bound.result c.from_residual-in_err-bound.ensures.1 in
     let ps = place_names c.args.self.now.net.now in
-    let named : is_name c.args.name.now ≡ true = sym c.is_name.ensures ∙ passed _ _ _ _ _ _ c.in_ok-check.ensures in
-    let new : is_new used c.args.name.now ≡ true = sym e ∙ passed _ _ _ _ _ _ c.in_ok-check-2.ensures in
+    let named : is_name c.args.fields.now.name.now ≡ true = sym c.is_name.ensures ∙ passed _ _ _ _ _ _ c.in_ok-check.ensures in
+    let new : is_new used c.args.fields.now.name.now ≡ true = sym e ∙ passed _ _ _ _ _ _ c.in_ok-check-2.ensures in
     rw (p.1, p.2)
-    (bound_refused used ps c.args.byte c.args.at.line c.args.name.now c.args.sum.now c.args.bound.now named new c.in_ok-weights.ensures.0 _ c.in_err-bound.ensures)
+    (bound_refused used ps c.args.fields.now.byte c.args.fields.now.at.line c.args.fields.now.name.now c.args.fields.now.sum.now c.args.fields.now.bound.now named new c.in_ok-weights.ensures.0 _ c.in_err-bound.ensures)
 
 pub returns : goal.returns
 returns c = λ used e.
     let ps = place_names c.args.self.now.net.now in
-    let named : is_name c.args.name.now ≡ true = sym c.is_name.ensures ∙ passed _ _ _ _ _ _ c.in_ok-check.ensures in
-    let new : is_new used c.args.name.now ≡ true = sym e ∙ passed _ _ _ _ _ _ c.in_ok-check-2.ensures in
-    let line = line_fine used ps c.args.byte c.args.at.line c.args.name.now c.args.sum.now c.args.bound.now named new c.in_ok-weights.ensures.0 c.in_ok-bound.bound c.in_ok-bound.ensures in
+    let named : is_name c.args.fields.now.name.now ≡ true = sym c.is_name.ensures ∙ passed _ _ _ _ _ _ c.in_ok-check.ensures in
+    let new : is_new used c.args.fields.now.name.now ≡ true = sym e ∙ passed _ _ _ _ _ _ c.in_ok-check-2.ensures in
+    let line = line_fine used ps c.args.fields.now.byte c.args.fields.now.at.line c.args.fields.now.name.now c.args.fields.now.sum.now c.args.fields.now.bound.now named new c.in_ok-weights.ensures.0 c.in_ok-bound.bound c.in_ok-bound.ensures in
     let fits : SFits w32 c.in_ok-bound.bound = search rules in
     (line.0, (refl, c.in_ok-weights.ensures.1, to_z-of_z w32 c.in_ok-bound.bound fits ∙ line.1))
