@@ -18,7 +18,6 @@ impl<'a> Lines<'a> {
 
     // All lines of the text.
     pub fn new(text: &'a [u8]) -> Lines<'a>
-        requires text_len_bound { length text.now < 2 ^ 63 }
         ensures { lines_left result ≡ numbered_lines text.now }
     {
         Lines {
