@@ -14,7 +14,7 @@ use model::refusal::Refusal;
 use model::sizes::FACTOR_DIGITS;
 use net_text::named_net::NamedNet;
 use texts::at::At;
-use texts::words::{is_digit, is_letter, number};
+use texts::words::{is_digit, is_letter, is_word, number};
 
 // The most bytes that a name has.
 pub const MOST_NAME: usize = 12;
@@ -70,12 +70,6 @@ fn digits_len(bytes: &[u8]) -> usize
     ensures within { result ≤ length bytes.now }
 {
     bytes.iter().take_while(|b| is_digit(**b)).count()
-}
-
-fn is_word(b: u8) -> bool
-    ensures { result ≡ is_word b }
-{
-    is_letter(b) || is_digit(b)
 }
 
 // How many letters and digits stand at the front.
