@@ -2,6 +2,7 @@
 #![tactic(auto)]
 
 pub mod named;
+pub mod named_net;
 pub mod net;
 pub mod read;
 pub mod reader;

@@ -4,5 +4,4 @@ pub mod Bounds
 pub mod RuleLines
 pub mod Standing
 pub mod Adding
-pub mod Placing
 pub mod Whole

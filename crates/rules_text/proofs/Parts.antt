@@ -1,5 +1,5 @@
 -- The pieces of a sum, as a reader finds them that goes from byte to byte.
-use Rattle.std.proofs.Common.{◌≡◌, ℕ, zero, suc, ◌+◌, ◌-◌, ◌<◌, ◌≤◌, min, Bool, true, false, cond, not, ◌&&◌, ◌||◌, eqb, leb, ◌⊎◌, List, [], ◌∷◌, length, get_or, take, drop, Some, None, Ok, Err, Option, Result, sym, refl, ap, ◌∙◌, subst, ap₂, inl, inr, arith}
+use Rattle.std.proofs.Common.{◌≡◌, ℕ, zero, suc, ◌+◌, ◌-◌, ◌<◌, ◌≤◌, min, Bool, true, false, cond, not, ◌&&◌, ◌||◌, eqb, leb, ◌⊎◌, List, [], ◌∷◌, length, get_or, take, drop, IfSome, Some, None, Ok, Err, Option, Result, sym, refl, ap, ◌∙◌, subst, ap₂, inl, inr, arith}
 use Rattle.std.specs.List.{prefix_len}
 use Rattle.std.proofs.lemmas.List.{take-take, length-take-le, drop-take, drop-drop, length-drop, get_or-drop, get_or-take, get_or_past}
 use Rattle.std.proofs.lemmas.List.Sums.{prefix_len-le-length, prefix_len_passes, prefix_len_stops}
@@ -258,15 +258,13 @@ pub same_pair : (a b c d : ℕ) → a ≡ c → b ≡ d → ◌≡◌ {A = ℕ �
 same_pair a b c d p q = λ i. (p i, q i)
 
 -- ---- the number of a piece, whose digits end at e
-pub factor_small : (ds : List ℕ) (n : ℕ) → Some n ≡ cond (is_numeral 2 ds) (Some (value ds)) None → n ≤ 99
-factor_small ds n e = go (is_numeral 2 ds) refl e
+pub factor_small : (ds : List ℕ) (o : Option ℕ) → o ≡ factor_of ds → IfSome o (λ n. n ≤ 99)
+factor_small ds o e = subst (λ (p : Option ℕ). IfSome p (λ n. n ≤ 99)) (sym e) (go (is_numeral 2 ds) refl (leb 1 (value ds)))
   where
-    go : (t : Bool) → is_numeral 2 ds ≡ t → Some n ≡ cond t (Some (value ds)) None → n ≤ 99
-    go true q h =
-        let same : n ≡ value ds = cc in
-        let w = numeral_is 2 ds (omega arith) ((d_numeral 2 ds (omega arith) (omega arith)).0 q) in
-        omega (arith, w.0)
-    go false q h = let z : ◌≡◌ {A = ℕ} 0 1 = cc in absurd (omega arith)
+    go : (t : Bool) → is_numeral 2 ds ≡ t → (u : Bool) → IfSome (cond (t && u) (Some (value ds)) None) (λ n. n ≤ 99)
+    go true q true = let w = numeral_is 2 ds (omega arith) ((d_numeral 2 ds (omega arith) (omega arith)).0 q) in omega (arith, w.0)
+    go true q false = tt
+    go false q u = tt
 
 module _ (f : List ℕ) (i e : ℕ) (is : e ≡ i + prefix_len is_digit (drop i f)) (le : i ≤ length f) (some : e ≡ i → ⊥) where
   abbrev ds : List ℕ

@@ -1,27 +1,14 @@
 -- The checks of a rule's fields: its name, its sum, its bound.
-use Rattle.std.proofs.Common.{◌≡◌, ℕ, ◌+◌, true, List, [], ◌∷◌, ◌++◌, length, ℤ, None, Ok, Err, Option, Result, vec_items, sym, ap, ◌∙◌, subst}
+use Rattle.std.proofs.Common.{◌≡◌, ℕ, ◌+◌, true, List, [], ◌∷◌, ◌++◌, length, ℤ, None, Ok, Err, Option, Result, sym, ap, ◌∙◌}
 use Rattle.std.proofs.lemmas.Bool.{cond-true}
 use Rattle.model.specs.declared.refusal.Refusal.TheVariants.{Field}
 use Rattle.formats.specs.declared.fault.TextFault.{TextFault}
 use Rattle.formats.specs.Words.{is_name, is_new}
 use Rattle.formats.specs.Texts.{Check, check, first_failed, unless}
 use Rattle.formats.specs.Sums.{lead_length, terms, sum_checks}
-use Rattle.formats.specs.NetText.{place_names}
 use Rattle.formats.specs.RulesText.{is_bound, bound_of, line_checks}
-use Rattle.net_text.specs.declared.net.Place.{Place}
-use Rattle.net_text.specs.declared.net.NetText.{NetText}
-use Rattle.net_text.specs.Nets.{net_of}
-use Rattle.net_text.proofs.Names.{places_of}
 use Rattle.texts.specs.Spans.{checked}
 use Rattle.texts.proofs.Checking.{stops, goes, then_stops}
-use Rattle.rules_text.specs.Sums.{titles, SumRead}
-
--- the names of the places, as the code has the places
-pub place_titles_are : (bs : List ℕ) (x : NetText) (ps : List Place) → ps ≡ vec_items x.places → titles bs ps ≡ place_names (net_of bs x)
-place_titles_are bs x ps e = ap (titles bs) e ∙ sym (places_of bs x)
-
-pub sum_read_by : {ps qs : List (List ℕ)} → ps ≡ qs → (k at : ℕ) (f : List ℕ) (r : Result (List ℤ) TextFault) → SumRead ps k at f r → SumRead qs k at f r
-sum_read_by e k at f r h = subst (λ (ns : List (List ℕ)). SumRead ns k at f r) e h
 
 module _ (used ps : List (List ℕ)) (at k : ℕ) (n s b : List ℕ) where
   abbrev of_sum : List Check

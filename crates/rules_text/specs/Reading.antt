@@ -7,28 +7,27 @@
 --   rule_read          the rules x with the line l, which is line k and starts at byte s; or the refusal of that line
 --   Step               what one line does to read rules
 --   Located bs n       each name of n starts where the name of its line does: the fixed rule's is in the first line, rule i's in line i + 1
---   Placed             rules are located, and so is the line that comes next
 --   Locates            a line keeps the names located
---   LinesRead          what the lines from byte s on do to read rules
---   RulesRead nbs net bs r    r is what the rules text bs says of the net that was read from nbs
+--   LinesRead          what the lines that are still to come do to read rules
+--   RulesRead net bs r r is what the rules text bs says of the net
 --   Stands bs s l      the name of the line l stands in the text bs as a part of the line that starts at s
-use Rattle.std.specs.Prelude.{◌≡◌, ℕ, ◌+◌, ◌<◌, ◌≤◌, cond, List, ◌++◌, length, take, drop, ℤ, pos, Some, None, Ok, Err, Option, Result, ◌≢◌, vec_items, slice_index_or}
+use Rattle.std.specs.Prelude.{◌≡◌, ℕ, ◌+◌, ◌<◌, ◌≤◌, cond, List, length, take, drop, ℤ, pos, Some, None, Ok, Err, Option, Result, ◌≢◌, vec_items, slice_index_or}
 use Rattle.model.specs.Sizes.{bound_digits, most_places}
 use Rattle.model.specs.declared.refusal.Refusal.TheVariants.{TooMany}
-use Rattle.formats.specs.Words.{is_numeral, value, lines, unlines}
+use Rattle.formats.specs.Words.{is_numeral, value}
 use Rattle.formats.specs.declared.fault.TextFault.{TextFault}
-use Rattle.formats.specs.Texts.{first_failed, unless, fault, read_lines, Proper, written}
+use Rattle.formats.specs.Texts.{first_failed, unless, fault, Proper, written}
 use Rattle.formats.specs.Texts.{Refused as Wrong}
-use Rattle.formats.specs.NetText.{names, place_names}
+use Rattle.formats.specs.NetText.{NetText, names, place_names}
 use Rattle.formats.specs.NetClauses.{net_meaning}
 use Rattle.formats.specs.Sums.{terms, sum_of}
 use Rattle.formats.specs.RulesText as said
 use Rattle.formats.specs.RulesText.{RuleShape, is_bound, bound_of, line_checks, checks_of, after_rule, rules_meaning, rules_reader, read_rules}
 use Rattle.formats.specs.RulesText.RuleShape.{a_fixed, a_rule, neither}
+use Rattle.texts.specs.declared.at.At.{At}
 use Rattle.texts.specs.Spans.{span, checked, Told, line_start}
+use Rattle.texts.specs.Walking.{read_on}
 use Rattle.texts.specs.declared.stop.ReadError.{ReadError}
-use Rattle.net_text.specs.declared.net.NetText.{NetText}
-use Rattle.net_text.specs.Nets.{net_of}
 use Rattle.rules_text.specs.declared.rule.RuleLine.{RuleLine}
 use Rattle.rules_text.specs.declared.rule.RulesText.{RulesText}
 use Rattle.rules_text.specs.Sums.{Weighs}
@@ -76,41 +75,35 @@ pub record Located (bs : List ℕ) (n : RulesText) : Type 0 where
   pub fixed : n.fixed.name.start ≡ 6
   pub others : (i : ℕ) → i < length (vec_items n.others) → (slice_index_or (vec_items n.others) i no_rule).name.start ≡ line_start bs (i + 1) + 5
 
--- n is located, and its next line starts at s and has as many lines before it as n has
-abbrev pub Placed : List ℕ → RulesText → ℕ → Type 0
-Placed bs n s =
-    Located bs n
-    × ((front : List (List ℕ)) × (lines bs ≡ front ++ lines (drop s bs)) × (length front ≡ length (vec_items n.others) + 1) × (length (unlines front) ≡ s))
-
 -- one line more, which starts at s: n' is located if n is
 abbrev pub Locates : List ℕ → RulesText → RulesText → ℕ → Type 0
 Locates bs n n' s = Located bs n → line_start bs (length (vec_items n.others) + 1) ≡ s → Located bs n' × (length (vec_items n'.others) ≡ length (vec_items n.others) + 1)
 
--- r answers the lines from byte s on, the first of which is line k; they lead from n to n'
-abbrev pub LinesRead : List (List ℕ) → List (List ℕ) → List ℕ → RulesText → RulesText → ℕ → ℕ → Result (Unit {0}) ReadError → Type 0
-LinesRead taken ps bs n n' k s r =
+-- r answers the lines ls, which are the last of the text bs; they lead from n to n'
+abbrev pub LinesRead : List (List ℕ) → List (List ℕ) → List ℕ → RulesText → RulesText → List (At × List ℕ) → Result (Unit {0}) ReadError → Type 0
+LinesRead taken ps bs n n' ls r =
     (x : said.RulesText) → RulesSay bs n x
-    → Told r (λ _. (y : said.RulesText) × (read_lines (rules_reader taken ps) (Some x) k s (lines (drop s bs)) ≡ Ok y) × RulesSay bs n' y)
-    (λ f. read_lines (rules_reader taken ps) (Some x) k s (lines (drop s bs)) ≡ Err f)
+    → Told r (λ _. (y : said.RulesText) × (read_on (rules_reader taken ps) (Some x) (length bs) ls ≡ Ok y) × RulesSay bs n' y)
+    (λ f. read_on (rules_reader taken ps) (Some x) (length bs) ls ≡ Err f)
 
 -- r is what the text bs says of the net: by the order of checks, and in the format's own terms
-pub record RulesRead (nbs : List ℕ) (net : NetText) (bs : List ℕ) (r : Result RulesText ReadError) : Type 0 where
+pub record RulesRead (net : NetText) (bs : List ℕ) (r : Result RulesText ReadError) : Type 0 where
   -- a net of more places than there may be, which no net text says, has no rules
-  pub crowded : most_places < length (vec_items net.places) → Told r (λ y. ⊥) (λ f. f ≡ fault TooMany 0 0)
+  pub crowded : most_places < length net.places → Told r (λ y. ⊥) (λ f. f ≡ fault TooMany 0 0)
   -- the answer that the order of checks gives
-  pub answer : length (vec_items net.places) ≤ most_places
-      → Told r (λ y. (x : said.RulesText) × (read_rules (names (net_of nbs net)) (place_names (net_of nbs net)) bs ≡ Ok x) × RulesSay bs y x)
-      (λ f. read_rules (names (net_of nbs net)) (place_names (net_of nbs net)) bs ≡ Err f)
+  pub answer : length net.places ≤ most_places
+      → Told r (λ y. (x : said.RulesText) × (read_rules (names net) (place_names net) bs ≡ Ok x) × RulesSay bs y x)
+      (λ f. read_rules (names net) (place_names net) bs ≡ Err f)
   -- rules are answered just where they are proper and the text is those rules written down
-  pub accepted : Proper net_meaning (net_of nbs net)
-      → Told r (λ y. (x : said.RulesText) × Proper (rules_meaning (names (net_of nbs net)) (place_names (net_of nbs net))) x
-      × (bs ≡ written (rules_meaning (names (net_of nbs net)) (place_names (net_of nbs net))) x) × RulesSay bs y x)
-      (λ f. (x : said.RulesText) → Proper (rules_meaning (names (net_of nbs net)) (place_names (net_of nbs net))) x
-      → bs ≢ written (rules_meaning (names (net_of nbs net)) (place_names (net_of nbs net))) x)
+  pub accepted : Proper net_meaning net
+      → Told r (λ y. (x : said.RulesText) × Proper (rules_meaning (names net) (place_names net)) x
+      × (bs ≡ written (rules_meaning (names net) (place_names net)) x) × RulesSay bs y x)
+      (λ f. (x : said.RulesText) → Proper (rules_meaning (names net) (place_names net)) x
+      → bs ≢ written (rules_meaning (names net) (place_names net)) x)
   -- a text is refused just for the first thing that is wrong with it
-  pub refused : Proper net_meaning (net_of nbs net)
-      → Told r (λ y. (f : TextFault) → Wrong (rules_meaning (names (net_of nbs net)) (place_names (net_of nbs net))) bs f → ⊥)
-      (λ f. Wrong (rules_meaning (names (net_of nbs net)) (place_names (net_of nbs net))) bs f
-      × ((g : TextFault) → Wrong (rules_meaning (names (net_of nbs net)) (place_names (net_of nbs net))) bs g → g ≡ f))
+  pub refused : Proper net_meaning net
+      → Told r (λ y. (f : TextFault) → Wrong (rules_meaning (names net) (place_names net)) bs f → ⊥)
+      (λ f. Wrong (rules_meaning (names net) (place_names net)) bs f
+      × ((g : TextFault) → Wrong (rules_meaning (names net) (place_names net)) bs g → g ≡ f))
   -- each name is the part of the text where its line has it
   pub located : Told r (λ y. Located bs y) (λ f. Unit {0})

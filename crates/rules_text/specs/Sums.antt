@@ -9,10 +9,9 @@
 --   Rest f i j       what follows the number and the star of the piece at i is the piece at j
 --   title_of q       the name that q begins with
 --   term_at ns i p   the part that is read of the piece p, which starts at the byte i of its field, over places of the names ns
---   titles bs xs     the names of the places xs, as parts of the text bs
 --   Weighs ws qs     ws are the weights that the parts qs give to the places
 --   SumRead ps k at f r    r are the weights of the field f, on line k at the byte `at`, over places of the names ps; or its refusal
-use Rattle.std.specs.Prelude.{◌≡◌, ℕ, ◌+◌, min, Bool, cond, not, ◌&&◌, ◌||◌, ◌==◌, nat_le, nat_lt, List, [], ◌∷◌, ◌++◌, map, length, take, drop, ℤ, pos, Some, None, Ok, Err, Option, Result, slice_index, slice_index_or}
+use Rattle.std.specs.Prelude.{◌≡◌, ℕ, ◌+◌, min, Bool, cond, not, ◌&&◌, ◌||◌, ◌==◌, nat_le, nat_lt, List, [], ◌∷◌, ◌++◌, length, take, drop, ℤ, pos, Some, None, Ok, Err, Option, Result, slice_index, slice_index_or}
 use Rattle.std.specs.List.{prefix_len}
 use Rattle.model.specs.Sizes.{factor_digits}
 use Rattle.model.specs.declared.refusal.Refusal.TheVariants.{NameUnknown, Sum}
@@ -20,8 +19,7 @@ use Rattle.formats.specs.declared.fault.TextFault.{TextFault}
 use Rattle.formats.specs.Words.{none, is_letter, is_digit, is_numeral, is_known, value, index_of}
 use Rattle.formats.specs.Texts.{Check, check, first_failed}
 use Rattle.formats.specs.Sums.{Part, weight, is_sign, terms, lead_length, digits, body_at, body, title, begins_name, sum_of, sum_checks}
-use Rattle.texts.specs.Spans.{part_of, checked}
-use Rattle.net_text.specs.declared.net.Place.{Place}
+use Rattle.texts.specs.Spans.{checked}
 use Rattle.rules_text.specs.declared.part.Next.{Next}
 use Rattle.rules_text.specs.declared.part.Next.TheVariants.{Plus, Minus, Times, Other, End}
 use Rattle.rules_text.specs.declared.part.Term.{Term}
@@ -68,9 +66,6 @@ abbrev pub term_at : List (List ℕ) → ℕ → List ℕ → Term
 term_at ns i p = record { number = number_of p; place = index_of ns (title p); name = i + body_at p; end = i + body_at p + length (title p) }
 
 -- ---- a sum
-abbrev pub titles : List ℕ → List Place → List (List ℕ)
-titles bs xs = map (λ (p : Place). part_of bs p.name) xs
-
 abbrev pub Weighs : List ℤ → List Part → Type 0
 Weighs ws qs = (p : ℕ) → slice_index_or ws p (pos 0) ≡ weight qs p
 

@@ -1,15 +1,14 @@
-// The names of places, moves and rules, as parts of the texts that have them.
-ghost use Rattle.std.specs.Prelude.{◌≡◌, ℕ, ◌++◌, map, slice_get};
+// The names of rules, as parts of the text that has them, and of all places, those of control places being names of rules.
+ghost use Rattle.std.specs.Prelude.{◌≡◌, ◌++◌, slice_get};
 ghost use Rattle.std.specs.Option.{option_map};
-ghost use Rattle.net_text.specs.Nets.{place_titles, move_titles};
-ghost use Rattle.texts.specs.Spans.{part_of, found};
-ghost use Rattle.rules_text.specs.declared.rule.RuleLine.{RuleLine};
-ghost use Rattle.rules_text.specs.Rules.{rule_titles};
-ghost use Rattle.rules_text.specs.Naming.{rule_found};
+ghost use Rattle.formats.specs.Words.{is_new};
+ghost use Rattle.formats.specs.NetText.{place_names};
+ghost use Rattle.texts.specs.Spans.{part_of};
+ghost use Rattle.rules_text.specs.Naming.{titles, rule_found};
 
 use crate::rule::RulesText;
-use net_text::net::NetText;
-use texts::names::{find, part};
+use net_text::named_net::{NamedNet, name_at};
+use texts::names::{find, lacks, part};
 use texts::words::same;
 
 // A rule of a rules text: the fixed one, or the one that belongs to a row.
@@ -19,77 +18,59 @@ pub enum Rule {
     Row(usize),
 }
 
-// The name of the rule that belongs to the row `r`.
-fn row_name<'a>(rules: &RulesText, text: &'a [u8], r: usize) -> Option<&'a [u8]>
-    ensures { option_map (λ x. x.now) result ≡ slice_get (map (λ (l : RuleLine). part_of text.now l.name) rules.now.others.items) r }
-{
-    match rules.others.get(r) {
-        Some(rule) => Some(part(text, rule.name)),
-        None => None,
+// Rules as they were read, with the text that their names are parts of.
+#[derive(Clone, Copy)]
+pub struct NamedRules<'a> {
+    pub rules: &'a RulesText,
+    pub text: &'a [u8],
+}
+
+impl<'a> NamedRules<'a> {
+    // The name of the fixed rule.
+    fn fixed_name(&self) -> &'a [u8]
+        ensures { result.now ≡ part_of self.now.text.now self.now.rules.now.fixed.name }
+    {
+        part(self.text, self.rules.fixed.name)
     }
-}
 
-// The name of the rule `r`, where 0 is the fixed one and the others follow it.
-pub fn rule_name<'a>(rules: &RulesText, text: &'a [u8], r: usize) -> Option<&'a [u8]>
-    ensures { option_map (λ x. x.now) result ≡ slice_get (rule_titles text.now rules.now) r }
-{
-    if r == 0 {
-        Some(part(text, rules.fixed.name))
-    } else {
-        row_name(rules, text, r - 1)
+    // The name of the rule `r`, where 0 is the fixed one and the others follow it.
+    pub fn rule_name(&self, r: usize) -> Option<&'a [u8]>
+        ensures { option_map (λ x. x.now) result ≡ slice_get (titles self.now) r }
+    {
+        if r == 0 {
+            Some(self.fixed_name())
+        } else {
+            name_at(&self.rules.others, self.text, r - 1)
+        }
     }
-}
 
-// The name of the place `p`: a part of the net text for a ground place, of the rules text for a control place. The control places
-// follow the ground places, the fixed rule's first, then those of the rows.
-pub fn place_name<'a>(
-    net: &NetText,
-    net_text: &'a [u8],
-    rules: &RulesText,
-    rules_text: &'a [u8],
-    p: usize,
-) -> Option<&'a [u8]>
-    ensures { option_map (λ x. x.now) result ≡ slice_get (place_titles net_text.now net.now ++ rule_titles rules_text.now rules.now) p }
-{
-    match net.places.get(p) {
-        Some(place) => Some(part(net_text, place.name)),
-        None => rule_name(rules, rules_text, p - net.places.len()),
+    // The name of the place `p` over the net: a part of the net text for a ground place, of the rules text for a control place. The
+    // control places follow the ground places, the fixed rule's first, then those of the rows.
+    pub fn place_name(&self, net: &NamedNet<'a>, p: usize) -> Option<&'a [u8]>
+        ensures { option_map (λ x. x.now) result ≡ slice_get (place_names net.now ++ titles self.now) p }
+    {
+        let ground = net.place_count();
+        if p < ground {
+            net.place_name(p)
+        } else {
+            self.rule_name(p - ground)
+        }
     }
-}
 
-// The name of the move `t`.
-pub fn move_name<'a>(net: &NetText, net_text: &'a [u8], t: usize) -> Option<&'a [u8]>
-    ensures { option_map (λ x. x.now) result ≡ slice_get (move_titles net_text.now net.now) t }
-{
-    match net.moves.get(t) {
-        Some(one) => Some(part(net_text, one.name)),
-        None => None,
+    // The rule of that name.
+    pub fn find_rule(&self, name: &[u8]) -> Option<Rule>
+        ensures { result ≡ rule_found (titles self.now) name.now }
+    {
+        if same(self.fixed_name(), name) {
+            return Some(Rule::Fixed);
+        }
+        find(&self.rules.others, self.text, name).map(Rule::Row)
     }
-}
 
-// The move of that name.
-pub fn find_move(net: &NetText, net_text: &[u8], name: &[u8]) -> Option<usize>
-    ensures { result ≡ found (move_titles net_text.now net.now) name.now }
-{
-    find(&net.moves, net_text, name)
-}
-
-// The ground place of that name.
-pub fn find_place(net: &NetText, net_text: &[u8], name: &[u8]) -> Option<usize>
-    ensures { result ≡ found (place_titles net_text.now net.now) name.now }
-{
-    find(&net.places, net_text, name)
-}
-
-// The rule of that name.
-pub fn find_rule(rules: &RulesText, text: &[u8], name: &[u8]) -> Option<Rule>
-    ensures { result ≡ rule_found (rule_titles text.now rules.now) name.now }
-{
-    if same(part(text, rules.fixed.name), name) {
-        return Some(Rule::Fixed);
-    }
-    match find(&rules.others, text, name) {
-        Some(r) => Some(Rule::Row(r)),
-        None => None,
+    // Whether no rule has the name.
+    pub fn is_new(&self, name: &[u8]) -> bool
+        ensures { result ≡ is_new (titles self.now) name.now }
+    {
+        !same(self.fixed_name(), name) && lacks(&self.rules.others, self.text, name)
     }
 }

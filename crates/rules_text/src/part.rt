@@ -1,19 +1,20 @@
 // One part of a sum: a number and a star, if it has them, and the name of a place.
-ghost use Rattle.std.specs.Prelude.{◌≡◌, ℕ, ◌+◌, ◌^◌, ◌<◌, ◌≤◌, ◌↔◌, length, drop, min, IsTrue, IfOk, IfSome};
+ghost use Rattle.std.specs.Prelude.{◌≡◌, ℕ, ◌+◌, ◌^◌, ◌<◌, ◌≤◌, length, drop, min, IfOk, IfSome};
 ghost use Rattle.std.specs.List.{prefix_len};
-ghost use Rattle.formats.specs.Words.{is_digit, index_of, is_numeral, value};
+ghost use Rattle.model.specs.Sizes.{most_places};
+ghost use Rattle.formats.specs.NetText.{place_names};
+ghost use Rattle.formats.specs.Words.{is_digit, index_of};
 ghost use Rattle.formats.specs.Sums.{begins_name, body_at};
 ghost use Rattle.texts.specs.Numbers.{is_word};
 ghost use Rattle.texts.specs.Spans.{checked};
-ghost use Rattle.rules_text.specs.Sums.{titles, next_at, piece_at, number_of, factor_of, Rest, number_checks, name_checks, term_checks, title_of, term_at};
+ghost use Rattle.rules_text.specs.Sums.{next_at, piece_at, number_of, factor_of, Rest, number_checks, name_checks, term_checks, title_of, term_at};
 
 use formats::fault::TextFault;
 use model::refusal::Refusal;
 use model::sizes::FACTOR_DIGITS;
-use net_text::net::Place;
+use net_text::named_net::NamedNet;
 use texts::at::At;
-use texts::names::find;
-use texts::words::{is_digit, is_letter, number};
+use texts::words::{is_digit, is_letter, is_word, number};
 
 // The most bytes that a name has.
 pub const MOST_NAME: usize = 12;
@@ -37,6 +38,19 @@ pub struct Term {
     pub end: usize,
 }
 
+// A sum that is read against a net: the field, which stands on the line `at` and starts at `byte`.
+#[derive(Clone, Copy)]
+pub(crate) struct SumReader<'a> {
+    pub net: &'a NamedNet<'a>,
+    pub sum: &'a [u8],
+    pub at: At,
+    pub byte: usize,
+    // a weight is kept for each place
+    ghost few_places: { length net.now.places ≤ most_places },
+    // the bytes of the text up to the end of the sum can be counted
+    ghost in_text: { byte + length sum.now + 1 < 2 ^ 64 },
+}
+
 // What stands at `i`.
 pub(crate) fn next_at(sum: &[u8], i: usize) -> Next
     ensures { result ≡ next_at sum.now i }
@@ -50,34 +64,20 @@ pub(crate) fn next_at(sum: &[u8], i: usize) -> Next
     }
 }
 
-// Where the digits from `start` on end.
-fn digits_end(sum: &[u8], start: usize) -> usize
-    ensures value { result ≡ start + prefix_len is_digit (drop start sum.now) }
-    ensures within { start ≤ length sum.now → result ≤ length sum.now }
+// How many digits stand at the front.
+fn digits_len(bytes: &[u8]) -> usize
+    ensures value { result ≡ prefix_len is_digit bytes.now }
+    ensures within { result ≤ length bytes.now }
 {
-    let mut end = start;
-    'digits: while end < sum.len() && is_digit(sum[end]) {
-        end += 1;
-    }
-    end
+    bytes.iter().take_while(|b| is_digit(**b)).count()
 }
 
-fn is_word(b: u8) -> bool
-    ensures { result ≡ is_word b }
+// How many letters and digits stand at the front.
+fn word_len(bytes: &[u8]) -> usize
+    ensures value { result ≡ prefix_len is_word bytes.now }
+    ensures within { result ≤ length bytes.now }
 {
-    is_letter(b) || is_digit(b)
-}
-
-// Where the name from `start` on ends, which is as long as names can be at most.
-fn name_end(sum: &[u8], start: usize) -> usize
-    ensures value { result ≡ start + min 12 (prefix_len is_word (drop start sum.now)) }
-    ensures within { start ≤ length sum.now → result ≤ length sum.now }
-{
-    let mut end = start;
-    'name: while end < sum.len() && end - start < MOST_NAME && is_word(sum[end]) {
-        end += 1;
-    }
-    end
+    bytes.iter().take_while(|b| is_word(**b)).count()
 }
 
 // Whether a name begins at `i`.
@@ -92,76 +92,79 @@ fn factor(digits: &[u8]) -> Option<u32>
     ensures value { result ≡ factor_of digits.now }
     ensures within { IfSome result (λ n. n ≤ 99) }
 {
-    match number(digits, FACTOR_DIGITS) {
-        Some(n) if n >= 1 => Some(n),
-        _ => None,
-    }
+    number(digits, FACTOR_DIGITS).filter(|n| *n >= 1)
 }
 
-// The number of the part that starts at `start`, 1 where it has none, and where its name starts.
-fn read_number(sum: &[u8], start: usize, at: At, byte: usize) -> Result<(u32, usize), TextFault>
-    requires start_within { start ≤ length sum.now }
-    requires sum_bound { byte + length sum.now + 1 < 2 ^ 64 }
-    ensures value { result ≡ checked (number_checks (byte + start) (piece_at sum.now start)) at.line (number_of (piece_at sum.now start), start + body_at (piece_at sum.now start)) }
-    ensures within { IfOk result (λ r. (r.0 ≤ 99) × (r.1 ≤ length sum.now)) }
-    ensures rest { IfOk result (λ r. Rest sum.now start r.1) }
-{
-    let end = digits_end(sum, start);
-    if end == start {
-        return Ok((1, start));
+impl SumReader<'_> {
+    // Where the digits from `start` on end.
+    fn digits_end(&self, start: usize) -> usize
+        requires start_within { start ≤ length self.now.sum.now }
+        ensures value { result ≡ start + prefix_len is_digit (drop start self.now.sum.now) }
+        ensures within { result ≤ length self.now.sum.now }
+    {
+        start + digits_len(&self.sum[start..])
     }
-    let Some(n) = factor(&sum[start..end]) else {
-        return Err(at.fault(Refusal::Sum, byte + start));
-    };
-    match next_at(sum, end) {
-        Next::Times => Ok((n, end + 1)),
-        _ => Err(at.fault(Refusal::Sum, byte + end)),
-    }
-}
 
-// The place whose name starts at `start`, and where the name ends.
-fn read_name(
-    places: &[Place],
-    net: &[u8],
-    sum: &[u8],
-    start: usize,
-    at: At,
-    byte: usize,
-) -> Result<(usize, usize), TextFault>
-    requires start_within { start ≤ length sum.now }
-    requires sum_bound { byte + length sum.now + 1 < 2 ^ 64 }
-    ensures value { result ≡ checked (name_checks (titles net.now places.now) (byte + start) (piece_at sum.now start)) at.line (index_of (titles net.now places.now) (title_of (piece_at sum.now start)), start + length (title_of (piece_at sum.now start))) }
-    ensures within { IfOk result (λ r. (r.0 < length places.now) × (r.1 ≤ length sum.now)) }
-{
-    at.check(begins_name(sum, start), Refusal::Sum, byte + start)?;
-    let end = name_end(sum, start);
-    match find(places, net, &sum[start..end]) {
-        Some(place) => Ok((place, end)),
-        None => Err(at.fault(Refusal::NameUnknown, byte + start)),
+    // Where the name from `start` on ends, which is as long as names can be at most.
+    fn name_end(&self, start: usize) -> usize
+        requires start_within { start ≤ length self.now.sum.now }
+        ensures value { result ≡ start + min 12 (prefix_len is_word (drop start self.now.sum.now)) }
+        ensures within { result ≤ length self.now.sum.now }
+    {
+        start + word_len(&self.sum[start..]).min(MOST_NAME)
     }
-}
 
-// The part that starts at `start`.
-pub(crate) fn read_term(
-    places: &[Place],
-    net: &[u8],
-    sum: &[u8],
-    start: usize,
-    at: At,
-    byte: usize,
-) -> Result<Term, TextFault>
-    requires start_within { start ≤ length sum.now }
-    requires sum_bound { byte + length sum.now + 1 < 2 ^ 64 }
-    ensures value { result ≡ checked (term_checks (titles net.now places.now) (byte + start) (piece_at sum.now start)) at.line (term_at (titles net.now places.now) start (piece_at sum.now start)) }
-    ensures within { IfOk result (λ t. (t.number ≤ 99) × (t.place < length places.now) × (t.end ≤ length sum.now)) }
-    ensures rest { IfOk result (λ t. Rest sum.now start t.name) }
-{
-    let (number, name) = read_number(sum, start, at, byte)?;
-    let (place, end) = read_name(places, net, sum, name, at, byte)?;
-    Ok(Term {
-        number,
-        place,
-        name,
-        end,
-    })
+    // The number of the part that starts at `start`, 1 where it has none, and where its name starts.
+    fn read_number(&self, start: usize) -> Result<(u32, usize), TextFault>
+        requires start_within { start ≤ length self.now.sum.now }
+        ensures value { result ≡ checked (number_checks (self.now.byte + start) (piece_at self.now.sum.now start)) self.now.at.line (number_of (piece_at self.now.sum.now start), start + body_at (piece_at self.now.sum.now start)) }
+        ensures within { IfOk result (λ r. (r.0 ≤ 99) × (r.1 ≤ length self.now.sum.now)) }
+        ensures rest { IfOk result (λ r. Rest self.now.sum.now start r.1) }
+    {
+        let end = self.digits_end(start);
+        if end == start {
+            return Ok((1, start));
+        }
+        let Some(n) = factor(&self.sum[start..end]) else {
+            return Err(self.at.fault(Refusal::Sum, self.byte + start));
+        };
+        match next_at(self.sum, end) {
+            Next::Times => Ok((n, end + 1)),
+            _ => Err(self.at.fault(Refusal::Sum, self.byte + end)),
+        }
+    }
+
+    // The place whose name starts at `start`, and where the name ends.
+    fn read_name(&self, start: usize) -> Result<(usize, usize), TextFault>
+        requires start_within { start ≤ length self.now.sum.now }
+        ensures value { result ≡ checked (name_checks (place_names self.now.net.now) (self.now.byte + start) (piece_at self.now.sum.now start)) self.now.at.line (index_of (place_names self.now.net.now) (title_of (piece_at self.now.sum.now start)), start + length (title_of (piece_at self.now.sum.now start))) }
+        ensures within { IfOk result (λ r. (r.0 < length self.now.net.now.places) × (r.1 ≤ length self.now.sum.now)) }
+    {
+        let byte = self.byte + start;
+        self.at
+            .check(begins_name(self.sum, start), Refusal::Sum, byte)?;
+        let end = self.name_end(start);
+        let place = self
+            .net
+            .find_place(&self.sum[start..end])
+            .ok_or(self.at.fault(Refusal::NameUnknown, byte))?;
+        Ok((place, end))
+    }
+
+    // The part that starts at `start`.
+    pub(crate) fn read_term(&self, start: usize) -> Result<Term, TextFault>
+        requires start_within { start ≤ length self.now.sum.now }
+        ensures value { result ≡ checked (term_checks (place_names self.now.net.now) (self.now.byte + start) (piece_at self.now.sum.now start)) self.now.at.line (term_at (place_names self.now.net.now) start (piece_at self.now.sum.now start)) }
+        ensures within { IfOk result (λ t. (t.number ≤ 99) × (t.place < length self.now.net.now.places) × (t.end ≤ length self.now.sum.now)) }
+        ensures rest { IfOk result (λ t. Rest self.now.sum.now start t.name) }
+    {
+        let (number, name) = self.read_number(start)?;
+        let (place, end) = self.read_name(name)?;
+        Ok(Term {
+            number,
+            place,
+            name,
+            end,
+        })
+    }
 }

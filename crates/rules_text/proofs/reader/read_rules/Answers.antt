@@ -1,61 +1,95 @@
-use Rattle.std.proofs.Common.{◌≤◌, length, vec_items, ◌∙◌, arith}
+use Rattle.std.proofs.Common.{◌≡◌, ◌+◌, ◌≤◌, ◌∷◌, length, Some, None, sym, ◌∙◌, arith}
 use Rattle.std.proofs.lemmas.Result.{err_from_is_err_and}
 use Rattle.formats.specs.NetText.{names, place_names}
-use Rattle.formats.specs.RulesText.{rules_reader}
-use Rattle.net_text.specs.Nets.{net_of}
-use Rattle.texts.proofs.Standing.{line_ends}
+use Rattle.formats.specs.Words.{fields}
+use Rattle.formats.specs.RulesText.{rule_shape, after_rule, rules_reader, read_rules}
+use Rattle.texts.specs.Walking.{numbered_lines, read_on, lines_left}
+use Rattle.texts.proofs.Walking.{some_line}
 use Rattle.texts.proofs.Whole.{text_refused, text_passed}
-use Rattle.rules_text.proofs.Placing.{first_placed}
-use Rattle.rules_text.proofs.Whole.{opened_says, first_refused, first_passed, first_stands, accepts, refuses, lines_refused}
+use Rattle.rules_text.specs.declared.rule.RulesText.{RulesText}
+use Rattle.rules_text.specs.Rules.{RulesSay}
+use Rattle.rules_text.proofs.Whole.{opened_says, first_refused, first_passed, first_stands, first_fits, first_left, first_located, accepts, refuses, lines_refused}
 use Rattle.rules_text.proofs.reader.read_rules.Goals as goal
+use Rattle.rules_text.proofs.reader.read_rules.Goals.{In-Some, After-new}
 
 pub returns-in_err-check_text : goal.returns-in_err-check_text
 returns-in_err-check_text c =
     let p = err_from_is_err_and c.from_residual.result c.from_residual.ensures.1 in
-    let net = net_of c.args.net_text.now c.args.net.now in
-    let few : length (vec_items c.args.net.now.places) ≤ 32 = omega (arith, c.args.net.now.places.ok.0) in
-    rw (p.1, p.2) (refuses c.args.net_text.now c.args.net.now c.args.text.now few _ (text_refused (rules_reader (names net) (place_names net)) c.args.text.now _ c.in_err-check_text.ensures))
+    let net = c.args.net.now in
+    let few : length net.places ≤ 32 = omega arith in
+    rw (p.1, p.2) (refuses net c.args.text.now few _ (text_refused (rules_reader (names net) (place_names net)) c.args.text.now _ c.in_err-check_text.ensures))
+
+-- the first line
+starts : (c : In-Some) → numbered_lines c.args.text.now ≡ (c.in-Some.at, c.in-Some.first.now) ∷ lines_left c.next.new.self
+starts c = sym c.new-lines.ensures ∙ c.in-Some.ensures.steps
+
+-- a text that passed has a line
+pub unreachable-requires : goal.unreachable-requires
+unreachable-requires c =
+    let t = text_passed (rules_reader (names c.args.net.now) (place_names c.args.net.now)) c.args.text.now c.in_ok-check_text.ensures in
+    some_line c.args.text.now t.0.0 t.0.2 (sym c.new-lines.ensures ∙ c.in_default.ensures.steps.0)
+
+pub read_fixed-requires : goal.read_fixed-requires
+read_fixed-requires c =
+    let net = c.args.net.now in
+    let t = text_passed (rules_reader (names net) (place_names net)) c.args.text.now c.in_ok-check_text.ensures in
+    let l = first_fits (names net) (place_names net) c.args.text.now t.0.2 c.in-Some.at c.in-Some.first.now (lines_left c.next.new.self) (starts (goal.at.read_fixed-requires c).In-Some) in
+    record { line_bound = omega (arith, l, t.0.1) }
 
 pub returns-in_err-fixed : goal.returns-in_err-fixed
 returns-in_err-fixed c =
     let p = err_from_is_err_and c.from_residual-in_err-fixed.result c.from_residual-in_err-fixed.ensures.1 in
-    let net = net_of c.args.net_text.now c.args.net.now in
-    let few : length (vec_items c.args.net.now.places) ≤ 32 = omega (arith, c.args.net.now.places.ok.0) in
+    let net = c.args.net.now in
+    let few : length net.places ≤ 32 = omega arith in
     let t = text_passed (rules_reader (names net) (place_names net)) c.args.text.now c.in_ok-check_text.ensures in
-    let b = line_ends c.args.text.now 0 c.until-end.result t.0.2 t.0.0 c.until-end.ensures.value in
     rw (p.1, p.2)
-    (refuses c.args.net_text.now c.args.net.now c.args.text.now few _ (t.1 ∙ first_refused (names net) (place_names net) c.args.text.now c.until-end.result c.until-end.ensures.value b.1 _ c.in_err-fixed.ensures))
+    (refuses net c.args.text.now few _
+    (t.1 ∙ first_refused (names net) (place_names net) c.args.text.now t.0.2 c.in-Some.at c.in-Some.first.now (lines_left c.next.new.self) (starts (goal.at.returns-in_err-fixed c).In-Some) _ c.in_err-fixed.ensures))
 
-pub read_lines-requires-clause-text_bound : goal.read_lines-requires-clause-text_bound
-read_lines-requires-clause-text_bound c =
-    let net = net_of c.args.net_text.now c.args.net.now in
+-- the rules of which only the fixed one is read
+abbrev begun : (c : After-new) → RulesText
+begun c = record { fixed = c.in_ok-fixed.fixed; others = c.new.result }
+
+says : (c : After-new) → RulesSay c.args.text.now (begun c) (after_rule (place_names c.args.net.now) None (rule_shape (fields c.in-Some.first.now))) × (c.in_ok-fixed.fixed.name.start ≡ c.in-Some.at.byte + 6)
+says c =
+    let net = c.args.net.now in
     let t = text_passed (rules_reader (names net) (place_names net)) c.args.text.now c.in_ok-check_text.ensures in
-    let b = line_ends c.args.text.now 0 c.until-end.result t.0.2 t.0.0 c.until-end.ensures.value in
-    (omega (arith, b.1), omega arith, t.0.1, t.0.2)
+    let stands = first_stands (names net) (place_names net) c.args.text.now t.0.2 c.in-Some.at c.in-Some.first.now (lines_left c.next.new.self) (sym c.new-lines.ensures ∙ c.in-Some.ensures.steps) in
+    opened_says c.args.text.now (place_names net) c.in-Some.at.byte _ c.in_ok-fixed.fixed c.new.result c.new.ensures.items stands c.in_ok-fixed.ensures.1
 
--- the text comes to what its lines after the first come to, from the fixed rule alone
+-- the text comes to what its lines after the first come to
+comes : (c : After-new) → read_rules (names c.args.net.now) (place_names c.args.net.now) c.args.text.now ≡ read_on (rules_reader (names c.args.net.now) (place_names c.args.net.now)) (Some (after_rule (place_names c.args.net.now) None (rule_shape (fields c.in-Some.first.now)))) (length c.args.text.now) (lines_left c.next.new.self)
+comes c =
+    let net = c.args.net.now in
+    let t = text_passed (rules_reader (names net) (place_names net)) c.args.text.now c.in_ok-check_text.ensures in
+    t.1 ∙ first_passed (names net) (place_names net) c.args.text.now t.0.2 c.in-Some.at c.in-Some.first.now (lines_left c.next.new.self) (sym c.new-lines.ensures ∙ c.in-Some.ensures.steps) c.in_ok-fixed.ensures.0
+
+pub read_lines-requires-clause-to_come : goal.read_lines-requires-clause-to_come
+read_lines-requires-clause-to_come c =
+    let net = c.args.net.now in
+    let t = text_passed (rules_reader (names net) (place_names net)) c.args.text.now c.in_ok-check_text.ensures in
+    first_left (names net) (place_names net) c.args.text.now t.0.2 c.in-Some.at c.in-Some.first.now (lines_left c.next.new.self) (sym c.new-lines.ensures ∙ c.in-Some.ensures.steps)
+    (record { fixed = c.in_ok-fixed.fixed; others = c.new.result }) c.new.ensures.items
+
+pub read_lines-requires-clause-located : goal.read_lines-requires-clause-located
+read_lines-requires-clause-located c =
+    let net = c.args.net.now in
+    let t = text_passed (rules_reader (names net) (place_names net)) c.args.text.now c.in_ok-check_text.ensures in
+    first_located (names net) (place_names net) c.args.text.now t.0.2 c.in-Some.at c.in-Some.first.now (lines_left c.next.new.self) (sym c.new-lines.ensures ∙ c.in-Some.ensures.steps)
+    (record { fixed = c.in_ok-fixed.fixed; others = c.new.result }) c.new.ensures.items (says (goal.at.read_lines-requires-clause-located c).After-new).1
+
 pub returns-in_err-read_lines : goal.returns-in_err-read_lines
 returns-in_err-read_lines c =
     let p = err_from_is_err_and c.from_residual-in_err-read_lines.result c.from_residual-in_err-read_lines.ensures.1 in
-    let net = net_of c.args.net_text.now c.args.net.now in
-    let few : length (vec_items c.args.net.now.places) ≤ 32 = omega (arith, c.args.net.now.places.ok.0) in
-    let t = text_passed (rules_reader (names net) (place_names net)) c.args.text.now c.in_ok-check_text.ensures in
-    let b = line_ends c.args.text.now 0 c.until-end.result t.0.2 t.0.0 c.until-end.ensures.value in
-    let stands = first_stands (names net) (place_names net) c.args.text.now c.until-end.result c.until-end.ensures.value b.1 in
-    let o = opened_says c.args.text.now (place_names net) _ c.in_ok-fixed.fixed c.new.result c.new.ensures.items stands c.in_ok-fixed.ensures.1 in
-    rw (p.1, p.2)
-    (lines_refused c.args.net_text.now c.args.net.now c.args.text.now few _ _ _
-    (t.1 ∙ first_passed (names net) (place_names net) c.args.text.now c.until-end.result c.until-end.ensures.value b.1 c.in_ok-fixed.ensures.0) (c.in_err-read_lines.ensures.answer _ o.0))
+    let net = c.args.net.now in
+    let few : length net.places ≤ 32 = omega arith in
+    let new = (goal.at.returns-in_err-read_lines c).After-new in
+    rw (p.1, p.2) (lines_refused net c.args.text.now few _ _ _ (comes new) (c.in_err-read_lines.ensures.answer _ (says new).0))
 
 pub returns : goal.returns
 returns c =
-    let net = net_of c.args.net_text.now c.args.net.now in
-    let few : length (vec_items c.args.net.now.places) ≤ 32 = omega (arith, c.args.net.now.places.ok.0) in
-    let t = text_passed (rules_reader (names net) (place_names net)) c.args.text.now c.in_ok-check_text.ensures in
-    let b = line_ends c.args.text.now 0 c.until-end.result t.0.2 t.0.0 c.until-end.ensures.value in
-    let stands = first_stands (names net) (place_names net) c.args.text.now c.until-end.result c.until-end.ensures.value b.1 in
-    let o = opened_says c.args.text.now (place_names net) _ c.in_ok-fixed.fixed c.new.result c.new.ensures.items stands c.in_ok-fixed.ensures.1 in
-    let a = c.in_ok-read_lines.ensures.answer _ o.0 in
-    accepts c.args.net_text.now c.args.net.now c.args.text.now few _ a.0
-    (t.1 ∙ first_passed (names net) (place_names net) c.args.text.now c.until-end.result c.until-end.ensures.value b.1 c.in_ok-fixed.ensures.0 ∙ a.1) a.2
-    (c.in_ok-read_lines.ensures.located (first_placed c.args.text.now _ c.until-end.result c.until-end.ensures.value b.1 c.new.ensures.items o.1))
+    let net = c.args.net.now in
+    let few : length net.places ≤ 32 = omega arith in
+    let new = (goal.at.returns c).After-new in
+    let a = c.in_ok-read_lines.ensures.answer _ (says new).0 in
+    accepts net c.args.text.now few _ a.0 (comes new ∙ a.1) a.2 c.in_ok-read_lines.ensures.located
