@@ -1,6 +1,7 @@
 -- An array made of what a closure answers at each index.
-use Rattle.std.proofs.Common.{◌≡◌, ℕ, zero, suc, ◌+◌, ◌<◌, ◌≤◌, List, [], ◌∷◌, length, get_or, map, sym, subst, ⊎_elim, arith}
-use Rattle.std.proofs.lemmas.Bool.{cases_eq}
+use Rattle.std.proofs.Common.{◌≡◌, ℕ, zero, suc, ◌+◌, ◌<◌, ◌≤◌, List, [], ◌∷◌, length, get_or, map, take, sym, ap, ◌∙◌, subst, ⊎_elim, arith}
+use Rattle.std.proofs.lemmas.Bool.{cases_eq, cases_lt}
+use Rattle.std.proofs.lemmas.List.{get_or-take, get_or_past, length-take, take-map}
 use Rattle.std.specs.Array.{IsFromFnResultFrom, IsFromFnResult}
 use Rattle.std.specs.Fn.{Called, Mut}
 
@@ -29,3 +30,13 @@ front_at R f [] i spare y tells here beyond = beyond (omega arith)
 front_at R f (x ∷ xs) zero spare y tells here beyond = tells x y (here x (omega arith))
 front_at R f (x ∷ xs) (suc i) spare y tells here beyond =
     front_at R f xs i spare y tells (λ d l. here d (omega arith)) (λ l. beyond (omega arith))
+
+-- the same of the first n alone, in a list of n
+pub front_is : {X V : Type 0} (f : X → V) (xs : List X) (n : ℕ) (ys : List V) (spare : V) → length ys ≡ n
+    → ((i : ℕ) → i < n → get_or ys i spare ≡ get_or (map f xs) i spare) → (i : ℕ) → get_or ys i spare ≡ get_or (map f (take n xs)) i spare
+front_is {X} {V} f xs n ys spare long each i =
+    ⊎_elim
+    (λ l. each i l ∙ sym (get_or-take n (map f xs) i spare l))
+    (λ h. get_or_past ys i spare (omega arith) ∙ sym (get_or_past (take n (map f xs)) i spare (omega (arith, length-take n (map f xs)))))
+    (cases_lt i n)
+    ∙ ap (λ (zs : List V). get_or zs i spare) (take-map f n xs)

@@ -1,5 +1,5 @@
 // The front of an array, filled from a slice.
-ghost use Rattle.std.specs.Prelude.{◌≡◌, ℕ, ◌<◌, ◌≤◌, length, map, slice_index_or};
+ghost use Rattle.std.specs.Prelude.{◌≡◌, ℕ, ◌<◌, ◌≤◌, length, map, take, slice_index_or};
 ghost use Rattle.std.specs.Fn.{FnReturnsAt};
 
 use std::array;
@@ -7,7 +7,7 @@ use std::array;
 // What `value` gives for each item in turn, and `spare` beyond them.
 pub fn front<T, U: Copy, const N: usize, F: Fn(&T) -> U>(items: &[T], spare: U, value: F) -> [U; N]
     requires { F.IsAlwaysCallable value }
-    ensures { (f : T → U) → ((x : T) (u : U) → FnReturnsAt F.Fn value x u → u ≡ f x) → (p : ℕ) (e : U) → p < N → slice_index_or result p e ≡ slice_index_or (map f items.now) p spare }
+    ensures { (f : T → U) → ((x : T) (u : U) → FnReturnsAt F.Fn value x u → u ≡ f x) → (p : ℕ) → slice_index_or result p spare ≡ slice_index_or (map f (take N items.now)) p spare }
 {
     array::from_fn(
         |p|
