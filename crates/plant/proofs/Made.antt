@@ -1,7 +1,7 @@
 -- An array made of what a closure answers at each index.
 use Rattle.std.proofs.Common.{◌≡◌, ℕ, zero, suc, ◌+◌, ◌<◌, ◌≤◌, List, [], ◌∷◌, length, get_or, map, take, sym, ap, ◌∙◌, subst, ⊎_elim, arith}
 use Rattle.std.proofs.lemmas.Bool.{cases_eq, cases_lt}
-use Rattle.std.proofs.lemmas.List.{get_or-take, get_or_past, length-take, take-map}
+use Rattle.std.proofs.lemmas.List.{get_or-take, get_or_past, get_or-map, length-map, length-take, take_all, take-map}
 use Rattle.std.specs.Array.{IsFromFnResultFrom, IsFromFnResult}
 use Rattle.std.specs.Fn.{Called, Mut}
 
@@ -40,3 +40,16 @@ front_is {X} {V} f xs n ys spare long each i =
     (λ h. get_or_past ys i spare (omega arith) ∙ sym (get_or_past (take n (map f xs)) i spare (omega (arith, length-take n (map f xs)))))
     (cases_lt i n)
     ∙ ap (λ (zs : List V). get_or zs i spare) (take-map f n xs)
+
+-- ---- what a caller of `front` has of it, where all the items are copied
+pub copied : {X V : Type 0} (f : X → V) (qs xs : List X) (n : ℕ) (is : List V) (e : V) → qs ≡ xs → length xs ≤ n
+    → ((p : ℕ) → get_or is p e ≡ get_or (map f (take n qs)) p e) → (p : ℕ) → get_or is p e ≡ get_or (map f xs) p e
+copied {X} f qs xs n is e same few h p =
+    h p ∙ ap (λ (ys : List X). get_or (map f (take n ys)) p e) same ∙ ap (λ (ys : List X). get_or (map f ys) p e) (take_all n xs few)
+
+pub mapped : {X V : Type 0} (f : X → V) (xs : List X) (d : X) (p : ℕ) → get_or (map f xs) p (f d) ≡ f (get_or xs p d)
+mapped f xs d p =
+    ⊎_elim
+    (λ l. get_or-map f xs p d (f d) l)
+    (λ h. get_or_past (map f xs) p (f d) (omega (arith, length-map xs f)) ∙ sym (ap f (get_or_past xs p d h)))
+    (cases_lt p (length xs))

@@ -1,6 +1,6 @@
 -- A table that is made of a net text is the net that the records say.
-use Rattle.std.proofs.Common.{◌≡◌, ℕ, ◌<◌, ◌≤◌, Bool, true, false, cond, ◌&&◌, eqb, ltb, leb, List, [], ◌∷◌, length, get_or, map, take, vec_items, vec_len, fold, sym, refl, ap, ◌∙◌, ⊎_elim, arith}
-use Rattle.std.proofs.lemmas.List.{get_or_past, get_or-map, length-map, take_all}
+use Rattle.std.proofs.Common.{◌≡◌, ℕ, ◌<◌, ◌≤◌, Bool, true, false, cond, ◌&&◌, eqb, ltb, leb, List, [], ◌∷◌, length, get_or, map, vec_items, vec_len, fold, sym, refl, ap, ◌∙◌, ⊎_elim, arith}
+use Rattle.std.proofs.lemmas.List.{get_or_past, get_or-map, length-map}
 use Rattle.std.proofs.lemmas.Bool.{cases_lt, cond-true, cond-false, lt-ltb, le-ltb, le-leb, leb-true, and_parts, and_from}
 use Rattle.formats.specs.Words.{all}
 use Rattle.formats.specs.ReadNet.{is_net}
@@ -72,18 +72,6 @@ pub given : (xs : List Arc) (p t : ℕ) → (cell_of xs p t).give ≡ arc_amount
 given xs p t = amounts (λ c. c.give) (λ a. a.give) (λ a. refl) p t none xs
 
 -- ---- places and moves: what is copied from their records
-pub copied : {X V : Type 0} (f : X → V) (qs xs : List X) (n : ℕ) (is : List V) (e : V) → qs ≡ xs → length xs ≤ n
-    → ((p : ℕ) → get_or is p e ≡ get_or (map f (take n qs)) p e) → (p : ℕ) → get_or is p e ≡ get_or (map f xs) p e
-copied {X} f qs xs n is e same few h p =
-    h p ∙ ap (λ (ys : List X). get_or (map f (take n ys)) p e) same ∙ ap (λ (ys : List X). get_or (map f ys) p e) (take_all n xs few)
-
-pub mapped : {X V : Type 0} (f : X → V) (xs : List X) (d : X) (p : ℕ) → get_or (map f xs) p (f d) ≡ f (get_or xs p d)
-mapped f xs d p =
-    ⊎_elim
-    (λ l. get_or-map f xs p d (f d) l)
-    (λ h. get_or_past (map f xs) p (f d) (omega (arith, length-map xs f)) ∙ sym (ap f (get_or_past xs p d h)))
-    (cases_lt p (length xs))
-
 module _ (ps : List Place) (fits : all is_filled ps ≡ true) (limits : List ℕ) (l : (p : ℕ) → get_or limits p 1 ≡ get_or (map (λ (q : Place). q.limit) ps) p 1) where
   limit_in : (p : ℕ) → p < length ps → get_or limits p 1 ≡ (get_or ps p no_place).limit
   limit_in p h = l p ∙ get_or-map (λ (q : Place). q.limit) ps p no_place 1 h

@@ -7,7 +7,8 @@ use Rattle.net_text.specs.Nets.{no_place, no_move}
 use Rattle.table.specs.declared.cell.Cell.{Cell}
 use Rattle.table.specs.Cells.{cell}
 use Rattle.table.specs.Made.{arc_amount, joins}
-use Rattle.table.proofs.Making.{Fits, fits_parts, taken, given, copied, mapped, some_limits, small_limits, held_by, limit_is, tokens_are, same_net}
+use Rattle.plant.proofs.Made.{copied, mapped}
+use Rattle.table.proofs.Making.{Fits, fits_parts, taken, given, some_limits, small_limits, held_by, limit_is, tokens_are, same_net}
 use Rattle.table.proofs.make.make.Goals as goal
 use Rattle.table.proofs.make.make.Goals.{After-front-3, at-returns}
 
