@@ -1,27 +1,15 @@
 -- What a bank answers, and its tokens after: each move has one place to look at.
-use Rattle.std.proofs.Common.{◌≡◌, ℕ, zero, suc, ◌+◌, ◌-◌, ◌<◌, ◌≤◌, Bool, true, false, cond, eqb, ltb, Some, None, Err, sym, refl, ap, ◌∙◌, subst, ⊎_elim, add-one, arith}
+use Rattle.std.proofs.Common.{◌≡◌, ℕ, ◌+◌, ◌-◌, ◌<◌, ◌≤◌, Bool, true, cond, eqb, ltb, Some, None, Err, sym, refl, ap, ◌∙◌, subst, ⊎_elim, arith}
 use Rattle.std.proofs.lemmas.Bool.Decides.{nat_tests}
 use Rattle.std.proofs.lemmas.Bool.{cases_lt, cases_eq, cond-true, cond-false, lt-ltb, le-ltb, eq-eqb, ne_eqb, both_ways}
 use Rattle.model.specs.declared.refusal.Refusal.TheVariants.{NoMove, Short, OverLimit}
 use Rattle.model.specs.Net.{Net}
-use Rattle.model.specs.Plant.{Answer, accepted, fault_of, fault_at, lowest, refuse_at, refuse_unless, ◌else_by◌, known, short_place, over_place, begin_answer, begun}
-use Rattle.plant.proofs.Lowest.{Sought, sought_first, sought_on, found_here, found_nowhere}
+use Rattle.model.specs.Plant.{Answer, accepted, fault_of, fault_at, refuse_at, refuse_unless, ◌else_by◌, known, short_place, over_place, begin_answer, begun}
+use Rattle.plant.proofs.Lowest.{lowest_at, lowest_none}
 use Rattle.plant.proofs.Answering.{refused_at}
 use Rattle.bank.specs.Banks.{bit, arc, bank_net, ground_fault}
 use Rattle.bank.specs.Words.{bit_most, bit_zero_from}
 use Rattle.bank.specs.Ranging.{limit_of}
-
--- the lowest, where just one number can pass
-sought_to : (f : ℕ → Bool) (n i : ℕ) → i ≤ n → ((k : ℕ) → k < i → f k ≡ false) → Sought f n i
-sought_to f n zero h none = sought_first f n
-sought_to f n (suc i) h none =
-    subst (Sought f n) (add-one i) (sought_on f n i (sought_to f n i (omega arith) (λ k l. none k (omega arith))) (omega arith) (none i (omega arith)))
-
-lowest_at : (f : ℕ → Bool) (n t : ℕ) → t < n → ((k : ℕ) → k < t → f k ≡ false) → f t ≡ true → lowest f 0 n ≡ Some t
-lowest_at f n t lt none here = found_here f n t (sought_to f n t (omega arith) none) lt here
-
-lowest_none : (f : ℕ → Bool) (n : ℕ) → ((k : ℕ) → k < n → f k ≡ false) → lowest f 0 n ≡ None
-lowest_none f n none = found_nowhere f n n (sought_to f n n (omega arith) none) (omega arith)
 
 arc_other : (n p t q : ℕ) → (p ≡ q → ⊥) → arc n p t q ≡ 0
 arc_other n p t q ne = grind (arith, nat_tests)
@@ -65,9 +53,6 @@ module _ (n w : ℕ) (c : ℕ → Bool) (t : ℕ) where
       (λ lt. ⊎_elim (λ e. (lt, e)) (λ ne. absurd (both_ways _ (sym (ap accepted (begin_short lt ne))) yes')) (cases_eq (bit w t) 1))
       (λ h. absurd (unknown (bank_net n c) t _ h yes'))
       (cases_lt t n)
-
-  pub begin_place : accepted (begin_answer (bank_net n c) (bit w) t) ≡ true → t < n
-  begin_place e = (begin_known e).0
 
   -- the tokens after it
   pub begun_bits : (v : ℕ) → accepted (begin_answer (bank_net n c) (bit w) t) ≡ true → ((q : ℕ) → bit v q ≡ cond (eqb q t) 0 (bit w q))

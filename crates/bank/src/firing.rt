@@ -1,43 +1,17 @@
 // What moves in a bank. Each call looks at one place, by its bit.
 ghost use Rattle.std.specs.Prelude.{◌≡◌, ◌^◌, ◌<◌, true, refl};
-ghost use Rattle.model.specs.declared.refusal.Refusal.TheVariants.{NoMove};
-ghost use Rattle.model.specs.Plant.{accepted, fault_of, short_place, over_place, begin_answer, finish_answer, back_answer, begun, finished, gone_back};
+ghost use Rattle.model.specs.Plant.{accepted, short_place, over_place, begin_answer, finish_answer, back_answer, begun, finished, gone_back};
 ghost use Rattle.model.specs.Layer.{plant_alone};
-ghost use Rattle.bank.specs.Banks.{bit, net_of, tokens_of, ground_fault};
+ghost use Rattle.bank.specs.Banks.{bit, net_of, tokens_of};
 ghost use Rattle.bank.specs.Ranging.{tokens_within};
 
 use crate::bank::Bank;
 use crate::bits::{bit_at, has_bit, with_bit, without_bit};
 use crate::reading::next_place;
-use model::fault::{Fault, Spot};
+use model::fault::Fault;
 use model::refusal::Refusal;
+use plant::net::Net;
 use plant::plant::Plant;
-
-// The fault of a move that is missing.
-fn no_move(t: usize) -> Fault
-    ensures { result ≡ fault_of NoMove t }
-{
-    Fault {
-        refusal: Refusal::NoMove,
-        transition: Some(t),
-        spot: None,
-    }
-}
-
-// The fault of the move `t` at the place `p`.
-fn fault_at(refusal: Refusal, t: usize, p: usize) -> Fault
-    ensures { result ≡ ground_fault refusal t p }
-{
-    Fault {
-        refusal,
-        transition: Some(t),
-        spot: Some(Spot {
-            place: p,
-            layer: 0,
-            row: 0,
-        }),
-    }
-}
 
 impl Bank {
     // The place that is short of what the move `t` takes.
@@ -123,33 +97,18 @@ impl Plant for Bank {
     }
 
     fn may_begin(&self, t: usize) -> Result<(), Fault> {
-        if t >= self.count {
-            return Err(no_move(t));
-        }
-        match self.short(t) {
-            Some(p) => Err(fault_at(Refusal::Short, t, p)),
-            None => Ok(()),
-        }
+        self.known(t)?;
+        self.refuse_at(Refusal::Short, t, self.short(t))
     }
 
     fn may_finish(&self, t: usize) -> Result<(), Fault> {
-        if t >= self.count {
-            return Err(no_move(t));
-        }
-        match self.full_after(t) {
-            Some(p) => Err(fault_at(Refusal::OverLimit, t, p)),
-            None => Ok(()),
-        }
+        self.known(t)?;
+        self.refuse_at(Refusal::OverLimit, t, self.full_after(t))
     }
 
     fn may_back(&self, t: usize) -> Result<(), Fault> {
-        if t >= self.count {
-            return Err(no_move(t));
-        }
-        match self.full_before(t) {
-            Some(p) => Err(fault_at(Refusal::OverLimit, t, p)),
-            None => Ok(()),
-        }
+        self.known(t)?;
+        self.refuse_at(Refusal::OverLimit, t, self.full_before(t))
     }
 
     fn begin(&mut self, t: usize) -> Result<(), Fault> {

@@ -7,7 +7,7 @@ use Rattle.model.specs.Net.{Net}
 use Rattle.model.specs.Plant.{Answer, accepted, known, fault_of, refuse_unless, ◌else_by◌, begin_answer, finish_answer, back_answer}
 use Rattle.plant.proofs.Answering.{refused_at, passed}
 use Rattle.line.specs.Lines.{line_net, line_fault}
-use Rattle.line.proofs.Lowest.{lowest_at, lowest_none}
+use Rattle.plant.proofs.Lowest.{lowest_at, lowest_none}
 
 -- an arc of a line: 1 at the place p if x, the number of its move, is t
 abbrev pub arc : ℕ → ℕ → ℕ → ℕ → ℕ

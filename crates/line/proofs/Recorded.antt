@@ -1,13 +1,37 @@
 -- What is made of the records of a line: numbers within their ranges, and the net and tokens that they tell of.
-use Rattle.std.proofs.Common.{◌≡◌, ℕ, ◌<◌, ◌≤◌, Bool, cond, ltb, List, length, get_or, sym, ap, ◌∙◌, ⊎_elim, arith}
+use Rattle.std.proofs.Common.{◌≡◌, ℕ, zero, suc, ◌<◌, ◌≤◌, Bool, true, false, cond, ◌&&◌, ltb, leb, List, [], ◌∷◌, length, get_or, sym, refl, ap, ◌∙◌, ⊎_elim, arith, tests}
 use Rattle.std.proofs.lemmas.List.{get_or_past}
-use Rattle.std.proofs.lemmas.Bool.{cases_lt, lt-ltb, le-ltb, cond-true, cond-false}
+use Rattle.std.proofs.lemmas.Bool.{cases_lt, lt-ltb, le-ltb, cond-true, cond-false, and_parts, and_from, leb-true, le-leb}
+use Rattle.std.specs.List.{list_all}
+use Rattle.net_text.specs.Filled.{is_filled}
 use Rattle.model.specs.Sizes.{most_limit}
 use Rattle.net_text.specs.declared.net.Place.{Place}
 use Rattle.net_text.specs.Nets.{no_place}
 use Rattle.line.specs.Lines.{line_net}
 use Rattle.net_text.specs.Nets.{limit_at, tokens_at}
-use Rattle.line.specs.Making.{Slots}
+use Rattle.line.specs.Making.{Slot, Slots, Decides}
+
+slot_from : (p : Place) → is_filled p ≡ true → Slot p
+slot_from p e =
+    let u = and_parts (leb 1 p.limit) (leb p.limit most_limit && leb p.tokens p.limit) e in
+    let v = and_parts (leb p.limit most_limit) (leb p.tokens p.limit) u.1 in
+    record { some = leb-true 1 p.limit u.0; small = leb-true p.limit most_limit v.0; within = leb-true p.tokens p.limit v.1 }
+
+slot_to : (p : Place) → Slot p → is_filled p ≡ true
+slot_to p s = and_from _ _ (le-leb 1 p.limit s.some) (and_from _ _ (le-leb p.limit most_limit s.small) (le-leb p.tokens p.limit s.within))
+
+slots_from : (ps : List Place) → list_all is_filled ps ≡ true → Slots ps
+slots_from [] e p l = absurd (omega arith)
+slots_from (x ∷ xs) e zero l = slot_from x (and_parts (is_filled x) (list_all is_filled xs) e).0
+slots_from (x ∷ xs) e (suc p) l = slots_from xs (and_parts (is_filled x) (list_all is_filled xs) e).1 p (omega arith)
+
+slots_to : (ps : List Place) → Slots ps → list_all is_filled ps ≡ true
+slots_to [] s = refl
+slots_to (x ∷ xs) s = and_from _ _ (slot_to x (s 0 (omega arith))) (slots_to xs (λ p l. s (suc p) (omega arith)))
+
+pub slots_decided : (r : Bool) (ps : List Place) → r ≡ list_all is_filled ps → Decides r (Slots ps)
+slots_decided true ps e = slots_from ps (sym e)
+slots_decided false ps e = λ s. let z : ◌≡◌ {A = Bool} false true = e ∙ slots_to ps s in search tests
 
 module _ (ps : List Place) (ls ts : List ℕ) (slots : Slots ps) (limits : (p : ℕ) → get_or ls p 0 ≡ limit_at ps p) (tokens : (p : ℕ) → get_or ts p 0 ≡ tokens_at ps p) where
   past : (p : ℕ) → length ps ≤ p → get_or ps p no_place ≡ no_place

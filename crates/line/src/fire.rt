@@ -1,42 +1,14 @@
 // The line as a net and as a plant.
 ghost use Rattle.std.specs.Prelude.{◌≡◌, ℕ, ◌≤◌};
 ghost use Rattle.model.specs.Layer.{plant_alone};
-ghost use Rattle.line.specs.Lines.{net_of, tokens_of, line_fault};
-ghost use Rattle.model.specs.Plant.{fault_of};
-ghost use Rattle.model.specs.declared.refusal.Refusal.TheVariants.{NoMove};
+ghost use Rattle.line.specs.Lines.{net_of, tokens_of};
 ghost use Rattle.std.proofs.Common.{rules, arith};
 
 use crate::line::Line;
-use model::fault::{Fault, Spot};
+use model::fault::Fault;
 use model::refusal::Refusal;
 use plant::net::Net;
 use plant::plant::Plant;
-
-// The fault of a move that the line does not have.
-fn no_move(t: usize) -> Fault
-    ensures { result ≡ fault_of NoMove t }
-{
-    Fault {
-        refusal: Refusal::NoMove,
-        transition: Some(t),
-        spot: None,
-    }
-}
-
-// The fault of the move `t` at the place `p`.
-fn fault(refusal: Refusal, t: usize, p: usize) -> Fault
-    ensures { result ≡ line_fault refusal t p }
-{
-    Fault {
-        refusal,
-        transition: Some(t),
-        spot: Some(Spot {
-            place: p,
-            layer: 0,
-            row: 0,
-        }),
-    }
-}
 
 impl Net for Line {
     ghost net = { net_of };
@@ -96,31 +68,25 @@ impl Plant for Line {
     }
 
     fn may_begin(&self, t: usize) -> Result<(), Fault> {
-        if t > self.count {
-            return Err(no_move(t));
-        }
+        self.known(t)?;
         if t > 0 && self.is_empty(t - 1) {
-            return Err(fault(Refusal::Short, t, t - 1));
+            return Err(Fault::at(Refusal::Short, t, self.spot(t - 1)));
         }
         Ok(())
     }
 
     fn may_finish(&self, t: usize) -> Result<(), Fault> {
-        if t > self.count {
-            return Err(no_move(t));
-        }
+        self.known(t)?;
         if t < self.count && self.is_full(t) {
-            return Err(fault(Refusal::OverLimit, t, t));
+            return Err(Fault::at(Refusal::OverLimit, t, self.spot(t)));
         }
         Ok(())
     }
 
     fn may_back(&self, t: usize) -> Result<(), Fault> {
-        if t > self.count {
-            return Err(no_move(t));
-        }
+        self.known(t)?;
         if t > 0 && self.is_full(t - 1) {
-            return Err(fault(Refusal::OverLimit, t, t - 1));
+            return Err(Fault::at(Refusal::OverLimit, t, self.spot(t - 1)));
         }
         Ok(())
     }

@@ -42,3 +42,11 @@ pub fits : (n : Net) (free more : ℕ → ℕ) (t : ℕ) → Ok tt ≡ (known n 
 fits n free more t e =
     let a = accepts n OverLimit t (over_place n free more) e in
     (a.0, λ p l. ltb-false (n.limit p) (free p + more p) (none_passes (λ q. ltb (n.limit q) (free q + more q)) 0 n.places a.1 p (omega arith) (omega arith)))
+
+-- a move that is not refused as missing is there
+pub known_in : (n : Net) (t : ℕ) → Ok tt ≡ known n t → t < n.moves
+known_in n t e = go (ltb t n.moves) refl e
+  where
+    go : (b : Bool) → ltb t n.moves ≡ b → Ok tt ≡ refuse_unless b (fault_of NoMove t) → t < n.moves
+    go true h r = ltb-true t n.moves h
+    go false h r = let z : ◌≡◌ {A = ℕ} 0 1 = cc in absurd (omega arith)

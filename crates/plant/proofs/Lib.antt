@@ -1,3 +1,4 @@
 pub mod Lowest
 pub mod Answering
 pub mod Alone
+pub mod Made

@@ -2,5 +2,6 @@
 #![tactic(auto)]
 
 pub mod find;
+pub mod front;
 pub mod net;
 pub mod plant;

@@ -1,8 +1,10 @@
 // The reading part of a net.
 ghost use Rattle.std.specs.Prelude.{◌≡◌, ℕ, ◌≤◌};
 ghost use Rattle.model.specs.Net.{Net as NetValue, Ranges};
+ghost use Rattle.model.specs.Plant.{known, refuse_at, fault_at};
 
-use model::fault::Spot;
+use model::fault::{Fault, Spot};
+use model::refusal::Refusal;
 
 // What is told of a net. Places and moves count from 0; the numbers of a missing one are 0, and a missing move is uncontrollable.
 pub trait Net {
@@ -50,6 +52,23 @@ pub trait Net {
             place: p,
             layer: self.layer(p),
             row: self.row(p),
+        }
+    }
+
+    // Refused if there is no move `t`.
+    final fn known(&self, t: usize) -> Result<(), Fault>
+        ensures { result ≡ known (net self.now) t }
+    {
+        Fault::of_move(Refusal::NoMove, t).unless(t < self.moves())
+    }
+
+    // Refused for the move `t` at the place that was found, if one was.
+    final fn refuse_at(&self, refusal: Refusal, t: usize, found: Option<usize>) -> Result<(), Fault>
+        ensures { result ≡ refuse_at (fault_at (net self.now) refusal t) found }
+    {
+        match found {
+            Some(p) => Err(Fault::at(refusal, t, self.spot(p))),
+            None => Ok(()),
         }
     }
 

@@ -1,30 +1,12 @@
 // What moves: a net with tokens.
-ghost use Rattle.std.specs.Prelude.{◌≡◌, ℕ, ◌<◌, ◌≤◌, Bool, if◌then◌else◌};
-ghost use Rattle.model.specs.Plant.{lowest, known, ◌else_by◌, refuse_at, fault_at, accepted, begin_answer, finish_answer, back_answer, begun, finished, gone_back};
+ghost use Rattle.std.specs.Prelude.{◌≡◌, ℕ, ◌≤◌, if◌then◌else◌};
+ghost use Rattle.model.specs.Plant.{accepted, begin_answer, finish_answer, back_answer, begun, finished, gone_back};
 ghost use Rattle.model.specs.Layer.{Pile, pile_net, pile_free, pile_begun, pile_finished, pile_gone_back};
-ghost use Rattle.plant.specs.Searches.{Tells};
 
 use crate::find::lowest;
 use crate::net::Net;
 use model::fault::Fault;
 use model::refusal::Refusal;
-
-// The move `t` is refused if the net has none such, and else at the lowest place that passes the test.
-fn answer<N: Net, F: Fn(usize) -> bool>(
-    net: &N,
-    refusal: Refusal,
-    t: usize,
-    fails: F,
-) -> Result<(), Fault>
-    requires { (p : ℕ) → p < (N.net net.now).places → F.pre fails p }
-    ensures { (f : ℕ → Bool) → Tells (F.post fails) (N.net net.now).places f → result ≡ (known (N.net net.now) t else_by refuse_at (fault_at (N.net net.now) refusal t) (lowest f 0 (N.net net.now).places)) }
-{
-    Fault::of_move(Refusal::NoMove, t).unless(t < net.moves())?;
-    match lowest(net.places(), fails) {
-        Some(p) => Err(Fault::at(refusal, t, net.spot(p))),
-        None => Ok(()),
-    }
-}
 
 pub trait Plant: Net {
     // the tokens now at each place
@@ -41,31 +23,33 @@ pub trait Plant: Net {
     fn may_begin(&self, t: usize) -> Result<(), Fault>
         ensures { result ≡ begin_answer (Self.Net.net self.now) (tokens self.now) t }
     {
-        answer(self, Refusal::Short, t, |p| self.free(p) < self.take(p, t))
+        self.known(t)?;
+        let short = lowest(self.places(), |p| self.free(p) < self.take(p, t));
+        self.refuse_at(Refusal::Short, t, short)
     }
 
     // What `finish` would answer now.
     fn may_finish(&self, t: usize) -> Result<(), Fault>
         ensures { result ≡ finish_answer (Self.Net.net self.now) (tokens self.now) t }
     {
-        answer(
-            self,
-            Refusal::OverLimit,
-            t,
+        self.known(t)?;
+        let over = lowest(
+            self.places(),
             |p| self.limit(p) - self.free(p) < self.give(p, t),
-        )
+        );
+        self.refuse_at(Refusal::OverLimit, t, over)
     }
 
     // What `back` would answer now.
     fn may_back(&self, t: usize) -> Result<(), Fault>
         ensures { result ≡ back_answer (Self.Net.net self.now) (tokens self.now) t }
     {
-        answer(
-            self,
-            Refusal::OverLimit,
-            t,
+        self.known(t)?;
+        let over = lowest(
+            self.places(),
             |p| self.limit(p) - self.free(p) < self.take(p, t),
-        )
+        );
+        self.refuse_at(Refusal::OverLimit, t, over)
     }
 
     // Takes the tokens of the move `t` from its places, or answers at which place they are short.

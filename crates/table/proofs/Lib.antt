@@ -1,4 +1,4 @@
-pub mod Columns
+pub mod Texts
 pub mod Firing
-pub mod Copying
+pub mod Filling
 pub mod Making

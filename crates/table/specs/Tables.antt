@@ -1,13 +1,11 @@
 -- The net that a table stands for.
 --   table_net        n places and k moves, with what is said of their letters, arcs and limits; all else is 0
---   cells            how many arcs a table has: one for each place and move
---   at               the index of place p and move t in a table of arcs
 --   net_of           the net of a table
 --   tokens_of        the tokens at each place of a table
-use Rattle.std.specs.Prelude.{ℕ, ◌+◌, ◌*◌, Bool, false, cond, ◌&&◌, nat_lt, slice_index, slice_index_or}
-use Rattle.model.specs.Sizes.{most_places, most_moves}
+use Rattle.std.specs.Prelude.{ℕ, Bool, false, cond, ◌&&◌, nat_lt, slice_index, slice_index_or}
 use Rattle.model.specs.Net.{Net}
 use Rattle.table.specs.declared.table.Table.{Table}
+use Rattle.table.specs.Cells.{cell}
 
 abbrev pub table_net : ℕ → ℕ → (ℕ → Bool) → (ℕ → ℕ → ℕ) → (ℕ → ℕ → ℕ) → (ℕ → ℕ) → Net
 table_net n k letters takes gives limits = record {
@@ -22,14 +20,8 @@ table_net n k letters takes gives limits = record {
   row = λ p. 0;
 }
 
-abbrev pub cells : ℕ
-cells = most_places * most_moves
-
-abbrev pub at : ℕ → ℕ → ℕ
-at p t = p * most_moves + t
-
 abbrev pub net_of : Table → Net
-net_of s = table_net s.places s.moves (λ t. slice_index_or s.controllable t false) (λ p t. slice_index s.takes (at p t)) (λ p t. slice_index s.gives (at p t)) (λ p. slice_index_or s.limits p 1)
+net_of s = table_net s.places s.moves (λ t. slice_index_or s.controllable t false) (λ p t. (cell s.arcs p t).take) (λ p t. (cell s.arcs p t).give) (λ p. slice_index_or s.limits p 1)
 
 abbrev pub tokens_of : Table → ℕ → ℕ
 tokens_of s p = cond (nat_lt p s.places) (slice_index s.tokens p) 0

@@ -4,12 +4,11 @@ ghost use Rattle.model.specs.Layer.{plant_alone};
 ghost use Rattle.table.specs.Tables.{net_of, tokens_of};
 ghost use Rattle.std.proofs.Common.{rules, arith};
 
-use crate::arrays::{lower, raise};
 use crate::table::Table;
 use model::fault::Fault;
-use model::sizes::MOST_MOVES;
 use plant::net::Net;
 use plant::plant::Plant;
+use std::array;
 
 impl Net for Table {
     ghost net = { net_of };
@@ -36,7 +35,7 @@ impl Net for Table {
 
     fn take(&self, p: usize, t: usize) -> u32 {
         if p < self.places && t < self.moves {
-            u32::from(self.takes[p * MOST_MOVES + t])
+            u32::from(self.arcs[t][p].take)
         } else {
             0
         }
@@ -44,7 +43,7 @@ impl Net for Table {
 
     fn give(&self, p: usize, t: usize) -> u32 {
         if p < self.places && t < self.moves {
-            u32::from(self.gives[p * MOST_MOVES + t])
+            u32::from(self.arcs[t][p].give)
         } else {
             0
         }
@@ -76,22 +75,21 @@ impl Plant for Table {
         if p < self.places { self.tokens[p] } else { 0 }
     }
 
-    #[tactic(auto, using(crate::proofs::Firing::lower_fits))]
     fn begin(&mut self, t: usize) -> Result<(), Fault> {
         self.may_begin(t)?;
-        lower(&mut self.tokens, &self.takes, self.places, t);
+        self.tokens = array::from_fn(|p| self.free(p) - self.take(p, t));
         Ok(())
     }
 
     fn finish(&mut self, t: usize) -> Result<(), Fault> {
         self.may_finish(t)?;
-        raise(&mut self.tokens, &self.gives, self.places, t);
+        self.tokens = array::from_fn(|p| self.free(p) + self.give(p, t));
         Ok(())
     }
 
     fn back(&mut self, t: usize) -> Result<(), Fault> {
         self.may_back(t)?;
-        raise(&mut self.tokens, &self.takes, self.places, t);
+        self.tokens = array::from_fn(|p| self.free(p) + self.take(p, t));
         Ok(())
     }
 }

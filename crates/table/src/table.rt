@@ -1,27 +1,26 @@
 // The net table, and what no value of it is without.
 ghost use Rattle.std.specs.Prelude.{ℕ, ◌≤◌, slice_index, slice_index_or};
 ghost use Rattle.model.specs.Sizes.{most_places, most_moves, most_arc, most_limit};
+ghost use Rattle.table.specs.Cells.{cell};
 
+use crate::cell::Cell;
 use model::sizes::{MOST_MOVES, MOST_PLACES};
-
-// The arcs of a table: that of place p and move t stands at p * MOST_MOVES + t.
-pub const CELLS: usize = MOST_PLACES * MOST_MOVES;
 
 #[derive(Drop)]
 pub struct Table {
     pub(crate) places: usize,
     pub(crate) moves: usize,
     pub(crate) controllable: [bool; MOST_MOVES],
-    pub(crate) takes: [u8; CELLS],
-    pub(crate) gives: [u8; CELLS],
+    // the arc of each place, move by move
+    pub(crate) arcs: [[Cell; MOST_PLACES]; MOST_MOVES],
     pub(crate) limits: [u32; MOST_PLACES],
     pub(crate) tokens: [u32; MOST_PLACES],
     ghost some_places: { 1 ≤ places },
     ghost few_places: { places ≤ most_places },
     ghost some_moves: { 1 ≤ moves },
     ghost few_moves: { moves ≤ most_moves },
-    ghost small_takes: { (i : ℕ) → slice_index takes i ≤ most_arc },
-    ghost small_gives: { (i : ℕ) → slice_index gives i ≤ most_arc },
+    ghost small_takes: { (p t : ℕ) → (cell arcs p t).take ≤ most_arc },
+    ghost small_gives: { (p t : ℕ) → (cell arcs p t).give ≤ most_arc },
     ghost some_limits: { (p : ℕ) → 1 ≤ slice_index_or limits p 1 },
     ghost small_limits: { (p : ℕ) → slice_index_or limits p 1 ≤ most_limit },
     ghost held: { (p : ℕ) → slice_index tokens p ≤ slice_index_or limits p 1 },

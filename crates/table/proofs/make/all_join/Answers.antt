@@ -1,14 +1,12 @@
-use Rattle.std.proofs.Common.{sym, refl}
-use Rattle.formats.specs.Words.{all}
-use Rattle.texts.proofs.Scanning.{each_stops, each_goes, each_ends}
-use Rattle.table.specs.Made.{joins, no_arc}
+use Rattle.std.proofs.Common.{◌∙◌, rules, tests}
+use Rattle.std.proofs.lemmas.Iterator.{YieldsList-from_slice}
+use Rattle.std.proofs.lemmas.Iterator.Search.{all_from_yields_List}
+use Rattle.table.specs.Made.{joins}
+use Rattle.table.proofs.Texts.{all_is}
 use Rattle.table.proofs.make.all_join.Goals as goal
 
-pub returns-then-not-joins : goal.returns-then-not-joins
-returns-then-not-joins c = sym (each_stops (joins c.args.places c.args.moves) (all (joins c.args.places c.args.moves)) refl (λ _ _. refl) c.args.arcs.now c.loop-arc.arc-index no_arc c.loop-arc-test.true c.loop-arc.invariant (sym c.if-not-joins.ensures))
-
-pub loop-arc-preserved : goal.loop-arc-preserved
-loop-arc-preserved c = each_goes (joins c.args.places c.args.moves) (all (joins c.args.places c.args.moves)) refl (λ _ _. refl) c.args.arcs.now c.loop-arc.arc-index no_arc c.loop-arc-test.true c.loop-arc.invariant (sym c.if-not-joins.ensures)
-
 pub returns : goal.returns
-returns c = sym (each_ends (joins c.args.places c.args.moves) (all (joins c.args.places c.args.moves)) refl (λ _ _. refl) c.args.arcs.now c.loop-arc.arc-index c.loop-arc-test.false c.loop-arc.invariant)
+returns c =
+    let test = joins c.args.places c.args.moves in
+    all_from_yields_List test _ _ _ c.all.ensures.ran (YieldsList-from_slice c.args.arcs.now c.iter.ensures.rest) (λ x b q k. search (rules, tests))
+    ∙ all_is test c.args.arcs.now

@@ -1,58 +1,91 @@
-use Rattle.std.proofs.Common.{◌≡◌, ◌≤◌, Bool, ◌&&◌, ltb, length, vec_items, vec_len, sym, ap, ◌∙◌, arith}
+use Rattle.std.proofs.Common.{◌≡◌, ℕ, ◌≤◌, Bool, false, ◌&&◌, ltb, length, get_or, map, cond, vec_items, vec_len, sym, ap, ◌∙◌, rules, tests, arith}
 use Rattle.model.specs.Sizes.{most_places, most_moves}
-use Rattle.table.specs.declared.side.Side.TheVariants.{Take, Give}
 use Rattle.formats.specs.Words.{all}
-use Rattle.table.specs.Made.{joins}
-use Rattle.table.proofs.Making.{fits_parts, column_is, limit_is, tokens_are, held_by, tokens_on, limits_on, letters_on, slots_on, same_net}
+use Rattle.net_text.specs.declared.net.Place.{Place}
+use Rattle.net_text.specs.declared.net.Move.{Move}
+use Rattle.net_text.specs.Nets.{no_place, no_move}
+use Rattle.table.specs.declared.cell.Cell.{Cell}
+use Rattle.table.specs.Cells.{cell}
+use Rattle.table.specs.Made.{arc_amount, joins}
+use Rattle.plant.proofs.Made.{copied, mapped}
+use Rattle.table.proofs.Making.{Fits, fits_parts, taken, given, some_limits, small_limits, held_by, limit_is, tokens_are, same_net}
 use Rattle.table.proofs.make.make.Goals as goal
+use Rattle.table.proofs.make.make.Goals.{After-front-3, at-returns}
 
-pub fill-requires : goal.fill-requires
-fill-requires c = ap (all (joins most_places most_moves)) c.deref-2.ensures.value ∙ (fits_parts c.args.net.now (sym c.if-not-is_fit.ensures)).joining
+pub cells_of-requires : goal.cells_of-requires
+cells_of-requires c = ap (all (joins most_places most_moves)) c.deref-2.ensures.value ∙ (fits_parts c.args.net.now (sym c.if-not-is_fit.ensures)).joining
 
-pub fill-requires-2 : goal.fill-requires-2
-fill-requires-2 c = ap (all (joins most_places most_moves)) c.deref-3.ensures.value ∙ (fits_parts c.args.net.now (sym c.if-not-is_fit.ensures)).joining
+module _ (c : After-front-3) where
+  fits : Fits c.args.net.now
+  fits = fits_parts c.args.net.now (sym c.if-not-is_fit.ensures)
+
+  places : length (vec_items c.args.net.now.places) ≤ most_places
+  places = omega (arith, fits.few_places, c.args.net.now.places.ok.0)
+
+  moves : length (vec_items c.args.net.now.moves) ≤ most_moves
+  moves = omega (arith, fits.few_moves, c.args.net.now.moves.ok.0)
+
+  letters : (t : ℕ) → get_or c.front.result t false ≡ (get_or (vec_items c.args.net.now.moves) t no_move).controllable
+  letters t =
+      copied (λ (x : Move). x.controllable) c.deref.result.now (vec_items c.args.net.now.moves) most_moves c.front.result false c.deref.ensures.value moves
+      (c.front.ensures (λ x. x.controllable) (λ x u k. search (rules, tests))) t
+      ∙ mapped (λ (x : Move). x.controllable) (vec_items c.args.net.now.moves) no_move t
+
+  limits : (p : ℕ) → get_or c.front-2.result p 1 ≡ get_or (map (λ (x : Place). x.limit) (vec_items c.args.net.now.places)) p 1
+  limits =
+      copied (λ (x : Place). x.limit) c.deref-3.result.now (vec_items c.args.net.now.places) most_places c.front-2.result 1 c.deref-3.ensures.value places
+      (c.front-2.ensures (λ x. x.limit) (λ x u k. search (rules, tests)))
+
+  tokens : (p : ℕ) → get_or c.front-3.result p 0 ≡ (get_or (vec_items c.args.net.now.places) p no_place).tokens
+  tokens p =
+      copied (λ (x : Place). x.tokens) c.deref-4.result.now (vec_items c.args.net.now.places) most_places c.front-3.result 0 c.deref-4.ensures.value places
+      (c.front-3.ensures (λ x. x.tokens) (λ x u k. search (rules, tests))) p
+      ∙ mapped (λ (x : Place). x.tokens) (vec_items c.args.net.now.places) no_place p
+
+  takes : (p t : ℕ) → (cell c.cells_of.result p t).take ≡ arc_amount (λ a. a.take) (vec_items c.args.net.now.arcs) p t
+  takes p t =
+      ap (λ (x : Cell). x.take) (c.cells_of.ensures.cells p t) ∙ taken c.deref-2.result.now p t
+      ∙ (λ i. arc_amount (λ a. a.take) (c.deref-2.ensures.value i) p t)
+
+  gives : (p t : ℕ) → (cell c.cells_of.result p t).give ≡ arc_amount (λ a. a.give) (vec_items c.args.net.now.arcs) p t
+  gives p t =
+      ap (λ (x : Cell). x.give) (c.cells_of.ensures.cells p t) ∙ given c.deref-2.result.now p t
+      ∙ (λ i. arc_amount (λ a. a.give) (c.deref-2.ensures.value i) p t)
 
 pub invariant_of-result-clause-some_places : goal.invariant_of-result-clause-some_places
-invariant_of-result-clause-some_places c = omega (arith, c.len.ensures, (fits_parts c.args.net.now (sym c.if-not-is_fit.ensures)).some_places)
+invariant_of-result-clause-some_places c = omega (arith, c.len.ensures, (fits c).some_places)
 
 pub invariant_of-result-clause-few_places : goal.invariant_of-result-clause-few_places
-invariant_of-result-clause-few_places c = omega (arith, c.len.ensures, (fits_parts c.args.net.now (sym c.if-not-is_fit.ensures)).few_places)
+invariant_of-result-clause-few_places c = omega (arith, c.len.ensures, (fits c).few_places)
 
 pub invariant_of-result-clause-some_moves : goal.invariant_of-result-clause-some_moves
-invariant_of-result-clause-some_moves c = omega (arith, c.len-2.ensures, (fits_parts c.args.net.now (sym c.if-not-is_fit.ensures)).some_moves)
+invariant_of-result-clause-some_moves c = omega (arith, c.len-2.ensures, (fits c).some_moves)
 
 pub invariant_of-result-clause-few_moves : goal.invariant_of-result-clause-few_moves
-invariant_of-result-clause-few_moves c = omega (arith, c.len-2.ensures, (fits_parts c.args.net.now (sym c.if-not-is_fit.ensures)).few_moves)
+invariant_of-result-clause-few_moves c = omega (arith, c.len-2.ensures, (fits c).few_moves)
+
+pub invariant_of-result-clause-some_limits : goal.invariant_of-result-clause-some_limits
+invariant_of-result-clause-some_limits c = some_limits (vec_items c.args.net.now.places) (fits c).filled c.front-2.result (limits c)
+
+pub invariant_of-result-clause-small_limits : goal.invariant_of-result-clause-small_limits
+invariant_of-result-clause-small_limits c = small_limits (vec_items c.args.net.now.places) (fits c).filled c.front-2.result (limits c)
 
 pub invariant_of-result-clause-held : goal.invariant_of-result-clause-held
-invariant_of-result-clause-held c =
-    let x = c.args.net.now in
-    let f = fits_parts x (sym c.if-not-is_fit.ensures) in
-    let ps = vec_items x.places in
-    held_by ps c.tokens_of.result c.limits_of.result f.filled (tokens_on c.tokens_of.result c.deref-5.result.now ps c.deref-5.ensures.value c.tokens_of.ensures)
-    (limits_on c.limits_of.result c.deref-4.result.now ps c.deref-4.ensures.value c.limits_of.ensures.value) c.limits_of.ensures.some
+invariant_of-result-clause-held c = held_by (vec_items c.args.net.now.places) (fits c).filled c.front-2.result (limits c) c.front-3.result (tokens c)
 
 pub returns : goal.returns
 returns c =
+    let d = (at-returns c).After-front-3 in
     let x = c.args.net.now in
-    let ok = sym c.if-not-is_fit.ensures in
-    let f = fits_parts x ok in
     let ps = vec_items x.places in
     let n = c.len.result in
     let k = c.len-2.result in
-    let xs = vec_items x.arcs in
-    let count : n ≡ length ps = c.len.ensures ∙ x.places.ok.0 in
-    let few : k ≤ most_moves = omega (arith, c.len-2.ensures, f.few_moves) in
-    let tokens = tokens_on c.tokens_of.result c.deref-5.result.now ps c.deref-5.ensures.value c.tokens_of.ensures in
-    let limits = limits_on c.limits_of.result c.deref-4.result.now ps c.deref-4.ensures.value c.limits_of.ensures.value in
-    let letters = letters_on c.letters_of.result c.deref.result.now (vec_items x.moves) c.deref.ensures.value c.letters_of.ensures in
-    let takes = slots_on Take c.fill.result c.deref-2.result.now xs c.deref-2.ensures.value c.fill.ensures.value in
-    let gives = slots_on Give c.fill-2.result c.deref-3.result.now xs c.deref-3.ensures.value c.fill-2.ensures.value in (
-      ok,
+    let count : n ≡ length ps = c.len.ensures ∙ x.places.ok.0 in (
+      sym c.if-not-is_fit.ensures,
       same_net n k (vec_len x.places) (vec_len x.moves) c.len.ensures c.len-2.ensures _ _ _ _ _ _ _ _
-          (λ t. ap (λ (b : Bool). ltb t k && b) (letters t))
-          (λ p t. column_is Take n k p t xs c.fill.result few f.joining takes)
-          (λ p t. column_is Give n k p t xs c.fill-2.result few f.joining gives)
-          (λ p. limit_is n p ps c.limits_of.result count limits),
-      (λ i p. tokens_are n p ps c.tokens_of.result count tokens i),
+          (λ t. ap (λ (b : Bool). ltb t k && b) (letters d t))
+          (λ p t. ap (λ (v : ℕ). cond (ltb p n && ltb t k) v 0) (takes d p t))
+          (λ p t. ap (λ (v : ℕ). cond (ltb p n && ltb t k) v 0) (gives d p t))
+          (λ p. limit_is ps (fits d).filled c.front-2.result (limits d) n p count),
+      (λ i p. tokens_are n p ps c.front-3.result count (tokens d) i),
     )

@@ -1,20 +1,36 @@
-use Rattle.std.proofs.Common.{◌≡◌, ℕ, cond, ltb, get_or, refl}
-use Rattle.model.specs.Plant.{begun, begin_answer}
+use Rattle.std.proofs.Common.{◌≡◌, ℕ, ◌-◌, ◌<◌, ◌≤◌, get_or, refl, rules}
+use Rattle.std.proofs.iter.Serving.{serving}
+use Rattle.model.specs.Plant.{begin_answer}
+use Rattle.model.specs.Sizes.{most_places}
 use Rattle.plant.proofs.Alone.{alone_begun}
-use Rattle.plant.proofs.Answering.{begins}
+use Rattle.plant.proofs.Made.{made_at}
 use Rattle.table.specs.Tables.{net_of, tokens_of}
-use Rattle.table.proofs.Firing.{lowered}
+use Rattle.table.proofs.Firing.{after, still_held, begun_none, begun_low, begin_takes}
 use Rattle.table.proofs.fire.TablePlant.begin.Goals as goal
+use Rattle.table.proofs.fire.TablePlant.begin.Goals.{After-from_fn-self, at-returns}
+
+made : (c : After-from_fn-self) (p : ℕ) → p < most_places → get_or c.from_fn-self.result p 0 ≡ tokens_of c.args.self.now p - (net_of c.args.self.now).take p c.args.t
+made c p l =
+    made_at _ c.from_fn-self.result most_places (λ q y. y ≡ tokens_of c.args.self.now q - (net_of c.args.self.now).take q c.args.t)
+    (λ q y f h k. search rules) c.from_fn-self.ensures.items p 0 l
+
+pub from_fn-self-requires : goal.from_fn-self-requires
+from_fn-self-requires c =
+    let low : (p : ℕ) → (net_of c.args.self.now).take p c.args.t ≤ tokens_of c.args.self.now p = begin_takes c.args.self.now c.args.t c.in_ok-may_begin.ensures in
+    grind serving
+
+pub invariant_of-self-clause-held : goal.invariant_of-self-clause-held
+invariant_of-self-clause-held c =
+    still_held c.args.self.now c.from_fn-self.result _ (made c) c.from_fn-self.ensures.items.long (begun_low c.args.self.now c.args.t)
 
 pub returns : goal.returns
 returns c =
     let s = c.args.self.now in
     let e = c.in_ok-may_begin.ensures in
-    let b = begins (net_of s) (tokens_of s) c.args.t e in
-    let after : (λ (p : ℕ). cond (ltb p s.places) (get_or c.lower.new.tokens p 0) 0) ≡ begun (net_of s) (tokens_of s) c.args.t = λ i p. lowered s.places s.moves c.args.t s.tokens c.lower.new.tokens s.takes (begin_answer (net_of s) (tokens_of s) c.args.t) e b.0 c.lower.ensures p i in
+    let moved = after s c.from_fn-self.result _ (made (at-returns c).After-from_fn-self) (begin_answer (net_of s) (tokens_of s) c.args.t) e (begun_none s c.args.t) in
     record {
       answer = e;
       same = refl;
-      after = after;
-      whole = alone_begun (net_of s) (net_of s) (tokens_of s) _ c.args.t _ refl e after;
+      after = moved;
+      whole = alone_begun (net_of s) (net_of s) (tokens_of s) _ c.args.t _ refl e moved;
     }
