@@ -52,6 +52,7 @@ pub(crate) struct SumReader<'a> {
 }
 
 // What stands at `i`.
+// Kept: the match on the next sign with the signs as literal cases is a named form of the project.
 pub(crate) fn next_at(sum: &[u8], i: usize) -> Next
     ensures { result ≡ next_at sum.now i }
 {
@@ -125,9 +126,9 @@ impl SumReader<'_> {
         if end == start {
             return Ok((1, start));
         }
-        let Some(n) = factor(&self.sum[start..end]) else {
-            return Err(self.at.fault(Refusal::Sum, self.byte + start));
-        };
+        let n = factor(&self.sum[start..end]).ok_or(
+            self.at.fault(Refusal::Sum, self.byte + start),
+        )?;
         match next_at(self.sum, end) {
             Next::Times => Ok((n, end + 1)),
             _ => Err(self.at.fault(Refusal::Sum, self.byte + end)),
