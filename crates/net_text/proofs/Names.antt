@@ -1,9 +1,14 @@
 -- The names of the places and moves that were read.
-use Rattle.std.proofs.Common.{◌≡◌, ℕ, ◌&&◌, List, ◌++◌, vec_items, ◌∙◌, ap₂}
-use Rattle.formats.specs.Words.{is_new}
+use Rattle.std.proofs.Common.{◌≡◌, ℕ, ◌&&◌, List, ◌++◌, map, vec_items, Result, sym, ap, ◌∙◌, ap₂}
+use Rattle.formats.specs.declared.fault.TextFault.{TextFault}
+use Rattle.formats.specs.Words.{is_new, index_of}
+use Rattle.formats.specs.ReadNet.{known_checks}
 use Rattle.formats.specs.NetText as value
 use Rattle.formats.specs.NetText.{names, place_names, move_names}
+use Rattle.texts.specs.Spans.{part_of, checked}
 use Rattle.texts.proofs.Naming.{map_map, new_append}
+use Rattle.net_text.specs.declared.net.Place.{Place}
+use Rattle.net_text.specs.declared.net.Move.{Move}
 use Rattle.net_text.specs.declared.net.NetText.{NetText}
 use Rattle.net_text.specs.Nets.{place_of, move_of, net_of, place_titles, move_titles}
 
@@ -15,3 +20,16 @@ moves_of bs x = map_map (λ (m : value.Move). m.name) (move_of bs) (vec_items x.
 
 pub new_names : (bs : List ℕ) (x : NetText) (n : List ℕ) → is_new (names (net_of bs x)) n ≡ (is_new (place_titles bs x) n && is_new (move_titles bs x) n)
 new_names bs x n = ap₂ (λ (u v : List (List ℕ)). is_new (u ++ v) n) (places_of bs x) (moves_of bs x) ∙ new_append (place_titles bs x) (move_titles bs x) n
+
+-- what is known of the items by their names is known of the names in the net
+pub knows_place : {r : Result ℕ TextFault} (bs : List ℕ) (x : NetText) (ps : List Place) (b k : ℕ) (f : List ℕ) → r ≡ checked (known_checks (map (λ (p : Place). part_of bs p.name) ps) b f) k (index_of (map (λ (p : Place). part_of bs p.name) ps) f)
+    → ps ≡ vec_items x.places → r ≡ checked (known_checks (place_names (net_of bs x)) b f) k (index_of (place_names (net_of bs x)) f)
+knows_place bs x ps b k f e is =
+    let by = λ (ns : List (List ℕ)). checked (known_checks ns b f) k (index_of ns f) in
+    e ∙ ap (λ (qs : List Place). by (map (λ (p : Place). part_of bs p.name) qs)) is ∙ sym (ap by (places_of bs x))
+
+pub knows_move : {r : Result ℕ TextFault} (bs : List ℕ) (x : NetText) (ms : List Move) (b k : ℕ) (f : List ℕ) → r ≡ checked (known_checks (map (λ (m : Move). part_of bs m.name) ms) b f) k (index_of (map (λ (m : Move). part_of bs m.name) ms) f)
+    → ms ≡ vec_items x.moves → r ≡ checked (known_checks (move_names (net_of bs x)) b f) k (index_of (move_names (net_of bs x)) f)
+knows_move bs x ms b k f e is =
+    let by = λ (ns : List (List ℕ)). checked (known_checks ns b f) k (index_of ns f) in
+    e ∙ ap (λ (qs : List Move). by (map (λ (m : Move). part_of bs m.name) qs)) is ∙ sym (ap by (moves_of bs x))

@@ -1,4 +1,5 @@
 -- What the net reader answers.
+--   so_far r         the net that the lines so far say
 --   line_read x k s l    the net x with the line l, which is line k and starts at byte s; or the refusal of that line
 --   plant_read k s l the kind that the first line says, or its refusal
 --   end_read x s     what the end of the text answers for the net x, where the text has s bytes
@@ -6,24 +7,28 @@
 --   Stands bs s l    the names of the line l stand in the text bs as parts of the line that starts at s
 --   Located bs n     each name of n starts where the name of its line does: place i is line i + 1, and the moves follow the places
 --   line_count n     how many lines n has after the first
---   Placed           a net is located, and so is the line that comes next
 --   Locates          a line keeps the names located
+--   LineAdded        what one line does to the reader: its text stays, its net takes the step, and names stay located
 --   NetRead bs r     r is what the text bs says
-use Rattle.std.specs.Prelude.{◌≡◌, ℕ, ◌+◌, ◌<◌, ◌≤◌, cond, List, ◌++◌, length, take, drop, Some, None, Ok, Err, vec_items, Result, ◌≢◌, slice_index_or}
+use Rattle.std.specs.Prelude.{◌≡◌, ℕ, ◌+◌, ◌<◌, ◌≤◌, cond, List, length, take, drop, Some, None, Ok, Err, vec_items, Result, OnOk, ◌≢◌, slice_index_or}
 use Rattle.model.specs.declared.refusal.Refusal.TheVariants.{NotOfKind}
 use Rattle.formats.specs.declared.kind.Kind.{Kind}
 use Rattle.formats.specs.declared.fault.TextFault.{TextFault}
-use Rattle.formats.specs.Words.{lines, unlines}
 use Rattle.formats.specs.Texts.{first_failed, unless, fault, Proper, written}
 use Rattle.formats.specs.Texts.{Refused as Wrong}
 use Rattle.formats.specs.NetText as value
 use Rattle.formats.specs.NetClauses.{Shape, net_meaning}
 use Rattle.formats.specs.NetClauses.Shape.{a_plant, a_place, a_move, an_arc, no_record}
 use Rattle.formats.specs.ReadNet.{checks, after, is_whole, read_net}
+use Rattle.texts.specs.declared.at.At.{At}
 use Rattle.texts.specs.declared.stop.ReadError.{ReadError}
 use Rattle.net_text.specs.declared.net.NetText.{NetText}
+use Rattle.net_text.specs.declared.read.NetReader.{NetReader}
 use Rattle.texts.specs.Spans.{Told, line_start}
 use Rattle.net_text.specs.Nets.{net_of, no_place, no_move}
+
+abbrev pub so_far : NetReader → value.NetText
+so_far r = net_of r.text.now r.net
 
 abbrev pub line_read : value.NetText → ℕ → ℕ → Shape → Result value.NetText TextFault
 line_read x k s l = unless (first_failed (checks (Some x) s l)) k (Ok (after (Some x) l))
@@ -54,15 +59,15 @@ pub record Located (bs : List ℕ) (n : NetText) : Type 0 where
   pub places : (i : ℕ) → i < length (vec_items n.places) → (slice_index_or (vec_items n.places) i no_place).name.start ≡ line_start bs (i + 1) + 6
   pub moves : (i : ℕ) → i < length (vec_items n.moves) → (slice_index_or (vec_items n.moves) i no_move).name.start ≡ line_start bs (length (vec_items n.places) + i + 1) + 5
 
--- n is located, and its next line starts at s and has as many lines before it as n has
-abbrev pub Placed : List ℕ → NetText → ℕ → Type 0
-Placed bs n s =
-    Located bs n
-    × ((front : List (List ℕ)) × (lines bs ≡ front ++ lines (drop s bs)) × (length front ≡ line_count n + 1) × (length (unlines front) ≡ s))
-
 -- one line more, which starts at s: n' is located if n is
 abbrev pub Locates : List ℕ → NetText → NetText → ℕ → Type 0
 Locates bs n n' s = Located bs n → line_start bs (line_count n + 1) ≡ s → Located bs n' × (line_count n' ≡ line_count n + 1)
+
+-- r answers the line l at `at`, which leads from the reader q to q'
+pub record LineAdded (q q' : NetReader) (at : At) (l : Shape) (r : Result (Unit {0}) ReadError) : Type 0 where
+  pub text : q'.text.now ≡ q.text.now
+  pub step : Step q.text.now q.net q'.net at.line at.byte l r
+  pub located : OnOk r (Locates q.text.now q.net q'.net at.byte)
 
 -- r is what the text bs says: by the order of checks, and in the format's own terms
 pub record NetRead (bs : List ℕ) (r : Result NetText ReadError) : Type 0 where

@@ -12,104 +12,102 @@ ghost use Rattle.texts.specs.Lines.{shape_of};
 ghost use Rattle.texts.specs.Spans.{Told};
 ghost use Rattle.texts.specs.Walking.{numbered_lines, read_on, lines_left};
 ghost use Rattle.net_text.specs.Nets.{place_of, net_of};
-ghost use Rattle.net_text.specs.Reading.{Step, plant_read, end_read, Stands, Located, Locates, line_count, NetRead};
+ghost use Rattle.net_text.specs.Reading.{so_far, LineAdded, plant_read, end_read, Stands, Located, Locates, line_count, NetRead};
 
 use crate::net::{NetText, Place};
-use crate::read::{read_arc, read_kind, read_move, read_place};
+use crate::read::{NetReader, read_kind};
 use formats::fault::TextFault;
 use formats::kind::Kind;
 use model::refusal::Refusal;
 use std::alloc::Global;
-use texts::at::At;
+use texts::at::{At, WHOLE};
 use texts::lines::{check_text, read_line};
 use texts::record::Record;
 use texts::stop::ReadError;
 use texts::walk::Lines;
 
-// Adds the place that the fields of a place line say.
-fn add_place(
-    net: &mut NetText,
-    text: &[u8],
-    at: At,
-    name: &[u8],
-    tokens: &[u8],
-    limit: &[u8],
-) -> Result<(), ReadError>
-    requires stands { Stands text.now at.byte (a_place name.now tokens.now limit.now) }
-    requires text_len_bound { length text.now < 2 ^ 63 }
-    ensures step { Step text.now net.old net.new at.line at.byte (a_place name.now tokens.now limit.now) result }
-    ensures located { OnOk result (Locates text.now net.old net.new at.byte) }
-{
-    let place = read_place(net, text, at, name, tokens, limit)?;
-    net.places.push(place)?;
-    Ok(())
-}
+impl<'a> NetReader<'a> {
+    // Adds the place that the fields of a place line say.
+    fn add_place(
+        &mut self,
+        at: At,
+        name: &[u8],
+        tokens: &[u8],
+        limit: &[u8],
+    ) -> Result<(), ReadError>
+        requires stands { Stands self.old.text.now at.byte (a_place name.now tokens.now limit.now) }
+        ensures { LineAdded self.old self.new at (a_place name.now tokens.now limit.now) result }
+    {
+        let place = self.read_place(at, name, tokens, limit)?;
+        self.net.places.push(place)?;
+        Ok(())
+    }
 
-// Adds the move that the fields of a move line say.
-fn add_move(
-    net: &mut NetText,
-    text: &[u8],
-    at: At,
-    name: &[u8],
-    letter: &[u8],
-) -> Result<(), ReadError>
-    requires stands { Stands text.now at.byte (a_move name.now letter.now) }
-    requires text_len_bound { length text.now < 2 ^ 63 }
-    ensures step { Step text.now net.old net.new at.line at.byte (a_move name.now letter.now) result }
-    ensures located { OnOk result (Locates text.now net.old net.new at.byte) }
-{
-    let read = read_move(net, text, at, name, letter)?;
-    net.moves.push(read)?;
-    Ok(())
-}
+    // Adds the move that the fields of a move line say.
+    fn add_move(&mut self, at: At, name: &[u8], letter: &[u8]) -> Result<(), ReadError>
+        requires stands { Stands self.old.text.now at.byte (a_move name.now letter.now) }
+        ensures { LineAdded self.old self.new at (a_move name.now letter.now) result }
+    {
+        let read = self.read_move(at, name, letter)?;
+        self.net.moves.push(read)?;
+        Ok(())
+    }
 
-// Adds the arc that the fields of an arc line say.
-fn add_arc(
-    net: &mut NetText,
-    text: &[u8],
-    at: At,
-    place: &[u8],
-    transition: &[u8],
-    take: &[u8],
-    give: &[u8],
-) -> Result<(), ReadError>
-    requires stands { Stands text.now at.byte (an_arc place.now transition.now take.now give.now) }
-    requires text_len_bound { length text.now < 2 ^ 63 }
-    ensures step { Step text.now net.old net.new at.line at.byte (an_arc place.now transition.now take.now give.now) result }
-    ensures located { OnOk result (Locates text.now net.old net.new at.byte) }
-{
-    let arc = read_arc(net, text, at, place, transition, take, give)?;
-    net.arcs.push(arc)?;
-    Ok(())
-}
+    // Adds the arc that the fields of an arc line say.
+    fn add_arc(
+        &mut self,
+        at: At,
+        place: &[u8],
+        transition: &[u8],
+        take: &[u8],
+        give: &[u8],
+    ) -> Result<(), ReadError>
+        requires stands { Stands self.old.text.now at.byte (an_arc place.now transition.now take.now give.now) }
+        ensures { LineAdded self.old self.new at (an_arc place.now transition.now take.now give.now) result }
+    {
+        let arc = self.read_arc(at, place, transition, take, give)?;
+        self.net.arcs.push(arc)?;
+        Ok(())
+    }
 
-// Adds what a line says to the net; no record of a first line or of the rules text may come here.
-fn add_record(net: &mut NetText, text: &[u8], at: At, line: Record<'_>) -> Result<(), ReadError>
-    requires stands { Stands text.now at.byte (shape_of line) }
-    requires text_len_bound { length text.now < 2 ^ 63 }
-    ensures step { Step text.now net.old net.new at.line at.byte (shape_of line.entry) result }
-    ensures located { OnOk result (Locates text.now net.old net.new at.byte) }
-{
-    match line {
-        Record::Place {
-            name,
-            tokens,
-            limit,
-        } => add_place(net, text, at, name, tokens, limit),
-        Record::Move { name, letter } => add_move(net, text, at, name, letter),
-        Record::Arc {
-            place,
-            transition,
-            take,
-            give,
-        } => add_arc(net, text, at, place, transition, take, give),
-        Record::Plant { .. } | Record::Fixed { .. } | Record::Rule { .. } => {
-            Err(ReadError::Refused(TextFault {
-                refusal: Refusal::NoRecord,
-                line: at.line,
-                byte: at.byte,
-            }))
+    // Adds what a line says to the net; no record of a first line or of the rules text may come here.
+    fn add_record(&mut self, at: At, line: Record<'_>) -> Result<(), ReadError>
+        requires stands { Stands self.old.text.now at.byte (shape_of line) }
+        ensures { LineAdded self.old self.new at (shape_of line.entry) result }
+    {
+        match line {
+            Record::Place {
+                name,
+                tokens,
+                limit,
+            } => self.add_place(at, name, tokens, limit),
+            Record::Move { name, letter } => self.add_move(at, name, letter),
+            Record::Arc {
+                place,
+                transition,
+                take,
+                give,
+            } => self.add_arc(at, place, transition, take, give),
+            Record::Plant { .. } | Record::Fixed { .. } | Record::Rule { .. } => {
+                Err(at.fault(Refusal::NoRecord, at.byte).into())
+            }
         }
+    }
+
+    // Reads the lines that are still to come.
+    fn read_lines(&mut self, lines: Lines<'_>) -> Result<(), ReadError>
+        requires text_bound { (length self.old.text.now ≤ most_bytes) × (last self.old.text.now ≡ 10) }
+        requires to_come { lines_left lines ≡ drop (line_count self.old.net + 1) (numbered_lines self.old.text.now) }
+        requires located { Located self.old.text.now self.old.net }
+        ensures text { self.new.text.now ≡ self.old.text.now }
+        ensures answer { Told result (λ _. read_on net_reader (Some (so_far self.old)) (length self.old.text.now) (lines_left lines.entry) ≡ ended net_reader (Some (net_of self.old.text.now self.new.net)) (length self.old.text.now)) (λ f. read_on net_reader (Some (so_far self.old)) (length self.old.text.now) (lines_left lines.entry) ≡ Err f) }
+        ensures located { OnOk result (Located self.old.text.now self.new.net) }
+    {
+        for (at, line) in lines {
+            let read = read_line(line, at)?;
+            self.add_record(at, read)?;
+        }
+        Ok(())
     }
 }
 
@@ -120,30 +118,15 @@ fn read_plant(line: &[u8], at: At) -> Result<Kind, TextFault>
 {
     match read_line(line, at)? {
         Record::Plant { kind } => read_kind(kind, at, at.byte + 6),
-        _ => Err(TextFault {
-            refusal: Refusal::NoRecord,
-            line: at.line,
-            byte: at.byte,
-        }),
+        _ => Err(at.fault(Refusal::NoRecord, at.byte)),
     }
-}
-
-fn is_single(place: &Place) -> bool
-    ensures { result ≡ (place.now.limit == 1) }
-{
-    place.limit == 1
 }
 
 // Whether all places have the limit 1.
 fn all_single(places: &[Place]) -> bool
     ensures { (bs : List ℕ) → result ≡ all (λ (p : said.Place). (p.limit == 1)) (map (place_of bs) places.now) }
 {
-    for place in places {
-        if !is_single(place) {
-            return false;
-        }
-    }
-    true
+    places.iter().all(|place| place.limit == 1)
 }
 
 // A bank has four places a machine, as many moves, and all limits are 1.
@@ -184,35 +167,9 @@ fn check_end(net: &NetText, size: usize) -> Result<(), TextFault>
     if is_whole(net) {
         Ok(())
     } else {
-        Err(TextFault {
-            refusal: Refusal::NotOfKind,
-            line: 0,
-            byte: size,
-        })
+        Err(WHOLE.fault(Refusal::NotOfKind, size))
     }
 }
-
-// Reads the lines that are still to come.
-fn read_lines(net: &mut NetText, text: &[u8], lines: Lines<'_>) -> Result<(), ReadError>
-    requires text_bound { (length text.now ≤ most_bytes) × (last text.now ≡ 10) }
-    requires to_come { lines_left lines ≡ drop (line_count net.old + 1) (numbered_lines text.now) }
-    requires located { Located text.now net.old }
-    ensures answer { Told result (λ _. read_on net_reader (Some (net_of text.now net.old)) (length text.now) (lines_left lines.entry) ≡ ended net_reader (Some (net_of text.now net.new)) (length text.now)) (λ f. read_on net_reader (Some (net_of text.now net.old)) (length text.now) (lines_left lines.entry) ≡ Err f) }
-    ensures located { OnOk result (Located text.now net.new) }
-{
-    for (at, line) in lines {
-        let read = read_line(line, at)?;
-        add_record(net, text, at, read)?;
-    }
-    Ok(())
-}
-
-// The fault of a text that has no line.
-const NO_LINE: TextFault = TextFault {
-    refusal: Refusal::Form,
-    line: 0,
-    byte: 0,
-};
 
 // Reads a net text: the net that it says, or where it is wrong and why.
 pub fn read_net(heap: Global, text: &[u8]) -> Result<NetText, ReadError>
@@ -221,16 +178,17 @@ pub fn read_net(heap: Global, text: &[u8]) -> Result<NetText, ReadError>
     check_text(text)?;
     let mut lines = Lines::new(text);
     let Some((at, first)) = lines.next() else {
-        return Err(ReadError::Refused(NO_LINE));
+        return Err(WHOLE.fault(Refusal::Form, 0).into());
     };
     let kind = read_plant(first, at)?;
-    let mut net = NetText {
+    let net = NetText {
         kind,
         places: Vec::new(heap),
         moves: Vec::new(heap),
         arcs: Vec::new(heap),
     };
-    read_lines(&mut net, text, lines)?;
-    check_end(&net, text.len())?;
-    Ok(net)
+    let mut reader = NetReader { text, net };
+    reader.read_lines(lines)?;
+    check_end(&reader.net, text.len())?;
+    Ok(reader.net)
 }

@@ -1,5 +1,5 @@
 -- Loops that go through bytes one by one.
-use Rattle.std.proofs.Common.{◌≡◌, ℕ, zero, suc, ◌+◌, ◌-◌, ◌*◌, ◌^◌, ◌<◌, ◌≤◌, min, Bool, true, false, cond, not, ◌&&◌, leb, eqb, ◌⊎◌, MatchBool, HoldsAt, List, [], ◌∷◌, length, get_or, take, drop, Option, MatchOption, sym, refl, ap, ◌∙◌, pow-suc, add-one, inl, inr, arith}
+use Rattle.std.proofs.Common.{◌≡◌, ℕ, zero, suc, ◌+◌, ◌-◌, ◌*◌, ◌^◌, ◌<◌, ◌≤◌, min, Bool, true, false, cond, not, ◌&&◌, leb, eqb, ◌⊎◌, MatchBool, HoldsAt, List, [], ◌∷◌, map, length, get_or, take, drop, Option, MatchOption, sym, refl, ap, ◌∙◌, pow-suc, add-one, inl, inr, arith}
 use native.Mathlib.Nat.{pow-le-pow_right}
 use Rattle.std.specs.List.{AllWithin, prefix_len}
 use Rattle.std.specs.Option.{unwrap_or}
@@ -44,6 +44,11 @@ module _ {X : Type 0} (p : X → Bool) where
   pub all_is : (xs : List X) (r : Bool) → MatchBool r (AllWithin Yes xs 0 (length xs)) ((k : ℕ) × (k < length xs) × HoldsAt No xs k) → r ≡ all p xs
   all_is xs true h = sym (all_true xs h)
   all_is xs false h = sym (all_false xs h.0 h.1 h.2)
+
+-- `all` of what the elements stand for
+pub all_map : {X Y : Type 0} (p : Y → Bool) (f : X → Y) (xs : List X) → all (λ x. p (f x)) xs ≡ all p (map f xs)
+all_map p f [] = refl
+all_map p f (x ∷ xs) = ap (λ (b : Bool). p (f x) && b) (all_map p f xs)
 
 -- of `position` where the byte b is looked for
 pub first_is : (b : ℕ) (xs : List ℕ) (r : Option ℕ) → MatchOption r (AllWithin (No (λ x. eqb x b)) xs 0 (length xs)) (λ i. (i < length xs) × HoldsAt (Yes (λ x. eqb x b)) xs i × AllWithin (No (λ x. eqb x b)) xs 0 i)

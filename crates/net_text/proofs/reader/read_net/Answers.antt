@@ -58,10 +58,10 @@ returns-in_err-check_end c =
     let p = err_from_is_err_and c.from_residual-in_err-check_end.result c.from_residual-in_err-check_end.ensures.1 in
     let bs = c.args.text.now in
     rw (p.1, p.2)
-    (refuses bs _ (comes (goal.at.returns-in_err-check_end c).After-read_lines ∙ c.in_ok-read_lines.ensures.answer ∙ end_refused (net_of bs c.read_lines.new.net) (length bs) _ (c.in_err-check_end.ensures bs)))
+    (refuses bs _ (comes (goal.at.returns-in_err-check_end c).After-read_lines ∙ c.in_ok-read_lines.ensures.answer ∙ end_refused (net_of bs c.read_lines.new.self.net) (length bs) _ (c.in_err-check_end.ensures bs)))
 
 pub returns : goal.returns
 returns c =
     let bs = c.args.text.now in
-    accepts bs _ (comes (goal.at.returns c).After-read_lines ∙ c.in_ok-read_lines.ensures.answer ∙ end_passed (net_of bs c.read_lines.new.net) (length bs) (c.in_ok-check_end.ensures bs))
+    accepts bs _ (comes (goal.at.returns c).After-read_lines ∙ c.in_ok-read_lines.ensures.answer ∙ end_passed (net_of bs c.read_lines.new.self.net) (length bs) (c.in_ok-check_end.ensures bs))
     c.in_ok-read_lines.ensures.located
