@@ -4,12 +4,12 @@ use Rattle.std.proofs.Common.{sym, ◌∙◌, ap, subst, inl, inr, ⊎_elim, ari
 use Rattle.std.proofs.lemmas.List.{get_or_past, get_or-replicate, get_or-set_same, get_or-set_other, length-replicate}
 use Rattle.std.proofs.lemmas.Bool.{cases_eq, cases_lt, cond-true, cond-false, cond_both, eq-eqb, ne_eqb}
 use Rattle.model.specs.Layer as model
-use Rattle.model.specs.Layer.{blank, row_with, change_row}
+use Rattle.model.specs.Layer.{blank, row_with, change_row, monitor, board, row_count}
 use Rattle.model.specs.Rule.{positive, negative}
-use Rattle.model.specs.Sizes.{control_limit, most_control_arc}
+use Rattle.model.specs.Sizes.{monitor_rows, board_rows, control_limit, most_control_arc}
 use Rattle.model.proofs.Setting.{positive_le, negative_le}
 use Rattle.layers.specs.declared.row.Row.{Row}
-use Rattle.layers.specs.Rows.{row_of, nothing, rows_of, only, rule_row}
+use Rattle.layers.specs.Rows.{row_of, nothing, rows_of, rule_row, top_of}
 
 pub record Kept (x : model.Row) : Type 0 where
   pub one_way : (t : ℕ) → 0 < x.take t → x.give t ≡ 0
@@ -52,28 +52,7 @@ rows_past rows r l = ap row_of (get_or_past rows r nothing l)
 pub kept_change : (rows : ℕ → model.Row) (r : ℕ) (new : model.Row) → ((i : ℕ) → Kept (rows i)) → Kept new → (i : ℕ) → Kept (change_row rows r new i)
 kept_change rows r new all here i = cond_both (i == r) new (rows i) Kept (λ e. here) (λ e. all i)
 
--- ---- the one row of a monitor
-pub only_first : (row : Row) (r : ℕ) → r < 1 → only row r ≡ row_of row
-only_first row r l = cond-true (r == 0) (row_of row) blank (eq-eqb r 0 (omega arith))
-
-pub only_change : (row new : Row) (r : ℕ) (x : model.Row) → r < 1 → row_of new ≡ x → only new ≡ change_row (only row) r x
-only_change row new r x l e = subst (λ (k : ℕ). only new ≡ change_row (only row) k x) (sym first) (λ j i. at (i == 0) i j)
-  where
-    first : r ≡ 0
-    first = omega arith
-
-    at : (b : Bool) (i : ℕ) → cond b (row_of new) blank ≡ cond b x (cond b (row_of row) blank)
-    at true i = e
-    at false i = refl
-
 -- ---- new rows
-pub only_blank : (row : Row) → row_of row ≡ blank → only row ≡ (λ r. blank)
-only_blank row e = λ j r. at (r == 0) j
-  where
-    at : (b : Bool) → cond b (row_of row) blank ≡ blank
-    at true = e
-    at false = refl
-
 pub rows_blank : (n : ℕ) (row : Row) → row_of row ≡ blank → rows_of (replicate n row) ≡ (λ r. blank)
 rows_blank n row e = λ j r. at r j
   where
@@ -82,3 +61,10 @@ rows_blank n row e = λ j r. at r j
         (λ l. ap row_of (get_or-replicate n r row nothing l) ∙ e)
         (λ l. rows_past (replicate n row) r (omega (arith, length-replicate n row)))
         (cases_lt r n)
+
+-- ---- how many rows a table has
+pub top_some : (n : ℕ) → 1 ≤ row_count (top_of n)
+top_some n = cond_both (n == monitor_rows) monitor board (λ t. 1 ≤ row_count t) (λ e. omega arith) (λ e. omega arith)
+
+pub top_few : (n : ℕ) → row_count (top_of n) ≤ board_rows
+top_few n = cond_both (n == monitor_rows) monitor board (λ t. row_count t ≤ board_rows) (λ e. omega arith) (λ e. omega arith)

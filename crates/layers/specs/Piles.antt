@@ -9,12 +9,12 @@
 --                    the layer is the lowest above all layers below
 use Rattle.std.specs.Prelude.{◌≡◌, ℕ, ◌<◌, ◌≤◌, false, cond}
 use Rattle.model.specs.Net.{Net}
+use Rattle.model.specs.Sizes.{monitor_rows, board_rows}
 use Rattle.model.specs.Layer.{Row, blank, Top, monitor, board, Pile, is_shut, row_count, next_layer, layer_net, layer_free, pile_net, pile_free}
 use Rattle.model.specs.Laws.{FreshRow}
-use Rattle.layers.specs.declared.single.Single.{Single}
 use Rattle.layers.specs.declared.table.Table.{Table}
 use Rattle.layers.specs.declared.layer.Layer.{Layer}
-use Rattle.layers.specs.Rows.{only, rows_of}
+use Rattle.layers.specs.Rows.{rows_of}
 
 abbrev pub net_with : {P R : Type 0} → Top → (P → Net) → (R → ℕ → Row) → Layer P R → Net
 net_with top net rows s = layer_net (row_count top) (net s.below) (rows s.rows)
@@ -33,14 +33,14 @@ pile_of top net tokens rows s = record {
   rows = rows_if_open (row_count top) (net s.below) (rows s.rows);
 }
 
-abbrev pub monitor_pile : {P : Type 0} → (P → Net) → (P → ℕ → ℕ) → Layer P Single → Pile
-monitor_pile net tokens s = pile_of monitor net tokens (λ o. only o.row) s
+abbrev pub monitor_pile : {P : Type 0} → (P → Net) → (P → ℕ → ℕ) → Layer P (Table monitor_rows) → Pile
+monitor_pile net tokens s = pile_of monitor net tokens (λ t. rows_of t.rows) s
 
-abbrev pub board_pile : {P : Type 0} → (P → Net) → (P → ℕ → ℕ) → Layer P Table → Pile
+abbrev pub board_pile : {P : Type 0} → (P → Net) → (P → ℕ → ℕ) → Layer P (Table board_rows) → Pile
 board_pile net tokens s = pile_of board net tokens (λ t. rows_of t.rows) s
 
-abbrev pub stack_pile : {P : Type 0} → (P → Net) → (P → ℕ → ℕ) → Layer (Layer P Single) Table → Pile
-stack_pile net tokens s = board_pile (net_with monitor net (λ o. only o.row)) (tokens_with monitor net tokens (λ o. only o.row)) s
+abbrev pub stack_pile : {P : Type 0} → (P → Net) → (P → ℕ → ℕ) → Layer (Layer P (Table monitor_rows)) (Table board_rows) → Pile
+stack_pile net tokens s = board_pile (net_with monitor net (λ t. rows_of t.rows)) (tokens_with monitor net tokens (λ t. rows_of t.rows)) s
 
 abbrev pub new_pile : Top → Net → (ℕ → ℕ) → Pile
 new_pile top n free = record { top = top; below = n; below_free = free; rows = λ r. blank }

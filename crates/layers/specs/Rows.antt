@@ -2,11 +2,13 @@
 --   row_of           the row that it is
 --   nothing          what is read past the last row
 --   rows_of          the rows of a table of them
---   only             one row, and none after it
 --   rule_row         the row of a rule that each move raises by so much, with so many tokens
+--   top_of           the layer that a table of so many rows is for: a monitor's one row, and a board's otherwise
 use Rattle.std.specs.Prelude.{ℕ, true, false, cond, List, [], ℤ, ◌==◌, slice_index, slice_index_or}
 use Rattle.model.specs.Rule.{positive, negative}
 use Rattle.model.specs.Layer as model
+use Rattle.model.specs.Layer.{Top, monitor, board}
+use Rattle.model.specs.Sizes.{monitor_rows}
 use Rattle.layers.specs.declared.row.Row.{Row}
 
 abbrev pub row_of : Row → model.Row
@@ -18,8 +20,8 @@ nothing = record { take = []; give = []; free = 0; in_use = false }
 abbrev pub rows_of : List Row → ℕ → model.Row
 rows_of rows r = row_of (slice_index_or rows r nothing)
 
-abbrev pub only : Row → ℕ → model.Row
-only row r = cond (r == 0) (row_of row) model.blank
-
 abbrev pub rule_row : (ℕ → ℤ) → ℕ → model.Row
 rule_row raises free = record { take = λ t. positive (raises t); give = λ t. negative (raises t); free = free; in_use = true }
+
+abbrev pub top_of : ℕ → Top
+top_of n = cond (n == monitor_rows) monitor board

@@ -16,7 +16,7 @@ impl<P: Plant, R: Rows> Net for Layer<P, R> {
 
     ghost sound = { λ s.
         layer_keeps (row_count R.Rows.top) (P.Net.net s.below) (R.Rows.rows s.rows) (P.Net.sound s.below)
-        (λ r t l. (R.Rows.small_takes s.rows r t, R.Rows.small_gives s.rows r t)) };
+        (λ r t l. ((R.Rows.kept s.rows r).small_takes t, (R.Rows.kept s.rows r).small_gives t)) };
 
     ghost layered = { λ s p. layer_layered (row_count R.Rows.top) (P.Net.net s.below) (R.Rows.rows s.rows) (P.Net.sound s.below) (P.Net.layered s.below) p };
 
@@ -42,26 +42,16 @@ impl<P: Plant, R: Rows> Net for Layer<P, R> {
 
     fn take(&self, p: usize, t: usize) -> u32 {
         match self.own_row(p) {
-            Some(r) => {
-                if self.below.controllable(t) {
-                    self.rows.take(r, t)
-                } else {
-                    0
-                }
-            }
+            Some(r) if self.below.controllable(t) => self.rows.take(r, t),
+            Some(_) => 0,
             None => self.below.take(p, t),
         }
     }
 
     fn give(&self, p: usize, t: usize) -> u32 {
         match self.own_row(p) {
-            Some(r) => {
-                if t < self.below.moves() {
-                    self.rows.give(r, t)
-                } else {
-                    0
-                }
-            }
+            Some(r) if t < self.below.moves() => self.rows.give(r, t),
+            Some(_) => 0,
             None => self.below.give(p, t),
         }
     }

@@ -55,10 +55,10 @@ impl<P: Plant, R: Rows> Plant for Layer<P, R> {
     }
 
     fn begin(&mut self, t: usize) -> Result<(), Fault>
-        ensures answer { result ≡ begin_answer (net_with R.Rows.top P.Net.net R.Rows.rows self.old) (tokens_with R.Rows.top P.Net.net P.Plant.tokens R.Rows.rows self.old) t }
-        ensures same { net_with R.Rows.top P.Net.net R.Rows.rows self.new ≡ net_with R.Rows.top P.Net.net R.Rows.rows self.old }
-        ensures after { tokens_with R.Rows.top P.Net.net P.Plant.tokens R.Rows.rows self.new ≡ begun (net_with R.Rows.top P.Net.net R.Rows.rows self.old) (tokens_with R.Rows.top P.Net.net P.Plant.tokens R.Rows.rows self.old) t }
-        ensures whole { pile_of R.Rows.top P.Net.net P.Plant.tokens R.Rows.rows self.new ≡ (if accepted result then pile_begun (pile_of R.Rows.top P.Net.net P.Plant.tokens R.Rows.rows self.old) t else pile_of R.Rows.top P.Net.net P.Plant.tokens R.Rows.rows self.old) }
+        ensures answer { result ≡ begin_answer (⟦<Layer<P, R> as Net>⟧.net self.old) (⟦<Layer<P, R> as Plant>⟧.tokens self.old) t }
+        ensures same { ⟦<Layer<P, R> as Net>⟧.net self.new ≡ ⟦<Layer<P, R> as Net>⟧.net self.old }
+        ensures after { ⟦<Layer<P, R> as Plant>⟧.tokens self.new ≡ begun (⟦<Layer<P, R> as Net>⟧.net self.old) (⟦<Layer<P, R> as Plant>⟧.tokens self.old) t }
+        ensures whole { ⟦<Layer<P, R> as Plant>⟧.pile self.new ≡ (if accepted result then pile_begun (⟦<Layer<P, R> as Plant>⟧.pile self.old) t else ⟦<Layer<P, R> as Plant>⟧.pile self.old) }
         ensures shut { is_shut (row_count R.Rows.top) (P.Net.net self.old.below) ≡ true → R.Rows.rows self.new.rows ≡ R.Rows.rows self.old.rows }
     {
         self.may_begin(t)?;
@@ -70,10 +70,10 @@ impl<P: Plant, R: Rows> Plant for Layer<P, R> {
     }
 
     fn finish(&mut self, t: usize) -> Result<(), Fault>
-        ensures answer { result ≡ finish_answer (net_with R.Rows.top P.Net.net R.Rows.rows self.old) (tokens_with R.Rows.top P.Net.net P.Plant.tokens R.Rows.rows self.old) t }
-        ensures same { net_with R.Rows.top P.Net.net R.Rows.rows self.new ≡ net_with R.Rows.top P.Net.net R.Rows.rows self.old }
-        ensures after { tokens_with R.Rows.top P.Net.net P.Plant.tokens R.Rows.rows self.new ≡ finished (net_with R.Rows.top P.Net.net R.Rows.rows self.old) (tokens_with R.Rows.top P.Net.net P.Plant.tokens R.Rows.rows self.old) t }
-        ensures whole { pile_of R.Rows.top P.Net.net P.Plant.tokens R.Rows.rows self.new ≡ (if accepted result then pile_finished (pile_of R.Rows.top P.Net.net P.Plant.tokens R.Rows.rows self.old) t else pile_of R.Rows.top P.Net.net P.Plant.tokens R.Rows.rows self.old) }
+        ensures answer { result ≡ finish_answer (⟦<Layer<P, R> as Net>⟧.net self.old) (⟦<Layer<P, R> as Plant>⟧.tokens self.old) t }
+        ensures same { ⟦<Layer<P, R> as Net>⟧.net self.new ≡ ⟦<Layer<P, R> as Net>⟧.net self.old }
+        ensures after { ⟦<Layer<P, R> as Plant>⟧.tokens self.new ≡ finished (⟦<Layer<P, R> as Net>⟧.net self.old) (⟦<Layer<P, R> as Plant>⟧.tokens self.old) t }
+        ensures whole { ⟦<Layer<P, R> as Plant>⟧.pile self.new ≡ (if accepted result then pile_finished (⟦<Layer<P, R> as Plant>⟧.pile self.old) t else ⟦<Layer<P, R> as Plant>⟧.pile self.old) }
         ensures shut { is_shut (row_count R.Rows.top) (P.Net.net self.old.below) ≡ true → R.Rows.rows self.new.rows ≡ R.Rows.rows self.old.rows }
     {
         self.may_finish(t)?;
@@ -85,10 +85,10 @@ impl<P: Plant, R: Rows> Plant for Layer<P, R> {
     }
 
     fn back(&mut self, t: usize) -> Result<(), Fault>
-        ensures answer { result ≡ back_answer (net_with R.Rows.top P.Net.net R.Rows.rows self.old) (tokens_with R.Rows.top P.Net.net P.Plant.tokens R.Rows.rows self.old) t }
-        ensures same { net_with R.Rows.top P.Net.net R.Rows.rows self.new ≡ net_with R.Rows.top P.Net.net R.Rows.rows self.old }
-        ensures after { tokens_with R.Rows.top P.Net.net P.Plant.tokens R.Rows.rows self.new ≡ gone_back (net_with R.Rows.top P.Net.net R.Rows.rows self.old) (tokens_with R.Rows.top P.Net.net P.Plant.tokens R.Rows.rows self.old) t }
-        ensures whole { pile_of R.Rows.top P.Net.net P.Plant.tokens R.Rows.rows self.new ≡ (if accepted result then pile_gone_back (pile_of R.Rows.top P.Net.net P.Plant.tokens R.Rows.rows self.old) t else pile_of R.Rows.top P.Net.net P.Plant.tokens R.Rows.rows self.old) }
+        ensures answer { result ≡ back_answer (⟦<Layer<P, R> as Net>⟧.net self.old) (⟦<Layer<P, R> as Plant>⟧.tokens self.old) t }
+        ensures same { ⟦<Layer<P, R> as Net>⟧.net self.new ≡ ⟦<Layer<P, R> as Net>⟧.net self.old }
+        ensures after { ⟦<Layer<P, R> as Plant>⟧.tokens self.new ≡ gone_back (⟦<Layer<P, R> as Net>⟧.net self.old) (⟦<Layer<P, R> as Plant>⟧.tokens self.old) t }
+        ensures whole { ⟦<Layer<P, R> as Plant>⟧.pile self.new ≡ (if accepted result then pile_gone_back (⟦<Layer<P, R> as Plant>⟧.pile self.old) t else ⟦<Layer<P, R> as Plant>⟧.pile self.old) }
         ensures shut { is_shut (row_count R.Rows.top) (P.Net.net self.old.below) ≡ true → R.Rows.rows self.new.rows ≡ R.Rows.rows self.old.rows }
     {
         self.may_back(t)?;

@@ -5,9 +5,7 @@ ghost use Rattle.layers.specs.Setting.{SetTo};
 ghost use Rattle.model.specs.Layer.{board, board_answer};
 ghost use Rattle.rules.specs.Rules.{rule_of};
 
-use crate::fault::fault;
 use crate::layer::Layer;
-use crate::rows::Rows;
 use crate::table::Table;
 use model::fault::Fault;
 use model::refusal::Refusal;
@@ -16,7 +14,7 @@ use plant::plant::Plant;
 use rules::typed::TypedRule;
 
 // Up to twelve rules, each set in a row of its own.
-pub type Board<P> = Layer<P, Table>;
+pub type Board<P> = Layer<P, Table<BOARD_ROWS>>;
 
 impl<P: Plant> Board<P> {
     // A board over the plant, with no rules yet.
@@ -34,18 +32,15 @@ impl<P: Plant> Board<P> {
     pub fn in_use(&self, r: usize) -> bool
         ensures { result ≡ ((board_pile P.Net.net P.Plant.tokens self.now).rows r).in_use }
     {
-        !self.is_shut() && self.rows.in_use(r)
+        self.row_in_use(r)
     }
 
     // What `set` would answer now.
     pub fn may_set(&self, r: usize, typed: &TypedRule) -> Result<(), Fault>
         ensures { result ≡ board_answer (board_pile P.Net.net P.Plant.tokens self.now) r (rule_of typed.now) }
     {
-        if r >= BOARD_ROWS {
-            return Err(fault(Refusal::NoRow));
-        }
-        self.check_rule(r, typed)?;
-        Ok(())
+        Fault::of_setting(Refusal::NoRow).unless(r < BOARD_ROWS)?;
+        self.check_rule(r, typed).map(|_| ())
     }
 
     // Sets the row `r` to the rule, worked over the plant below, or answers why not; a refused rule changes nothing.
@@ -55,9 +50,7 @@ impl<P: Plant> Board<P> {
         ensures refused { (f : Fault) → result ≡ Err f → self.new ≡ self.old }
         ensures set { result ≡ Ok tt → SetTo (board_pile P.Net.net P.Plant.tokens self.old) (board_pile P.Net.net P.Plant.tokens self.new) r (rule_of typed.now) }
     {
-        if r >= BOARD_ROWS {
-            return Err(fault(Refusal::NoRow));
-        }
+        Fault::of_setting(Refusal::NoRow).unless(r < BOARD_ROWS)?;
         self.set_row(r, typed)
     }
 }

@@ -64,11 +64,7 @@ impl<P: Plant, R: Rows> Layer<P, R> {
                     layer: self.next_layer(),
                     row: r,
                 };
-                Err(Fault {
-                    refusal,
-                    transition: Some(t),
-                    spot: Some(spot),
-                })
+                Err(Fault::at(refusal, t, spot))
             }
             None => Ok(()),
         }

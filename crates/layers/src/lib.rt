@@ -4,12 +4,10 @@
 pub mod as_net;
 pub mod as_plant;
 pub mod board;
-mod fault;
 pub mod layer;
 pub mod monitor;
 pub mod pile;
 pub mod row;
 mod rows;
 mod setting;
-pub mod single;
 pub mod table;

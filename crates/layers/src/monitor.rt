@@ -6,14 +6,13 @@ ghost use Rattle.model.specs.Layer.{monitor, monitor_answer};
 ghost use Rattle.rules.specs.Rules.{rule_of};
 
 use crate::layer::Layer;
-use crate::rows::Rows;
-use crate::single::Single;
+use crate::table::Table;
 use model::fault::Fault;
 use plant::plant::Plant;
 use rules::typed::TypedRule;
 
 // One rule, for as long as the cell runs.
-pub type Monitor<P> = Layer<P, Single>;
+pub type Monitor<P> = Layer<P, Table<1>>;
 
 impl<P: Plant> Monitor<P> {
     // A monitor over the plant, with no rule yet.
@@ -23,7 +22,7 @@ impl<P: Plant> Monitor<P> {
     {
         Layer {
             below,
-            rows: Single::blank(),
+            rows: Table::blank(),
         }
     }
 
@@ -31,15 +30,14 @@ impl<P: Plant> Monitor<P> {
     pub fn in_use(&self) -> bool
         ensures { result ≡ ((monitor_pile P.Net.net P.Plant.tokens self.now).rows 0).in_use }
     {
-        !self.is_shut() && self.rows.in_use(0)
+        self.row_in_use(0)
     }
 
     // What `set` would answer now.
     pub fn may_set(&self, typed: &TypedRule) -> Result<(), Fault>
         ensures { result ≡ monitor_answer (monitor_pile P.Net.net P.Plant.tokens self.now) (rule_of typed.now) }
     {
-        self.check_rule(0, typed)?;
-        Ok(())
+        self.check_rule(0, typed).map(|_| ())
     }
 
     // Sets its rule, worked over the plant below, or answers why not; a refused rule changes nothing.

@@ -1,11 +1,14 @@
-// The rows of a layer, behind one trait, so that what a layer does is written once.
+// The rows of a layer, behind one trait, so that a layer is one type over any plant.
+// Kept: a trait with one implementation, since a layer of `P` beside `[Row; N]` would ask each caller that both fit in memory.
 ghost use Rattle.std.specs.Prelude.{◌≡◌, ℕ, ◌+◌, ◌-◌, ◌<◌, ◌≤◌, pos, nat_lt, slice_index_or, unsigned_abs};
+ghost use Rattle.layers.specs.Kept.{Kept};
 ghost use Rattle.layers.specs.Rows.{rule_row};
 ghost use Rattle.model.specs.Layer.{Row as RowValue, Top, row_count, blank, row_with, change_row};
-ghost use Rattle.model.specs.Plant.{lowest};
+ghost use Rattle.model.specs.Plant.{lowest as lowest_of};
 ghost use Rattle.model.specs.Sizes.{board_rows, control_limit, most_control_arc};
 
 use model::sizes::{CONTROL_LIMIT, MOST_MOVES};
+use plant::find::lowest;
 
 // The rows count from 0; a missing one has no arcs and no tokens, and no rule.
 pub trait Rows {
@@ -49,38 +52,27 @@ pub trait Rows {
 
     // The lowest row that has fewer tokens than the move `t` takes there.
     fn short(&self, t: usize) -> Option<usize>
-        ensures { result ≡ lowest (λ r. nat_lt (rows self.now r).free ((rows self.now r).take t)) 0 (row_count top) }
+        ensures { result ≡ lowest_of (λ r. nat_lt (rows self.now r).free ((rows self.now r).take t)) 0 (row_count top) }
     {
-        'rows: for r in 0..self.count() {
-            if self.free(r) < self.take(r, t) {
-                return Some(r);
-            }
-        }
-        None
+        lowest(self.count(), |r| self.free(r) < self.take(r, t))
     }
 
     // The lowest row that would go over its limit by what the move `t` gives there.
     fn over_by_give(&self, t: usize) -> Option<usize>
-        ensures { result ≡ lowest (λ r. nat_lt control_limit ((rows self.now r).free + (rows self.now r).give t)) 0 (row_count top) }
+        ensures { result ≡ lowest_of (λ r. nat_lt control_limit ((rows self.now r).free + (rows self.now r).give t)) 0 (row_count top) }
     {
-        'rows: for r in 0..self.count() {
-            if CONTROL_LIMIT - self.free(r) < self.give(r, t) {
-                return Some(r);
-            }
-        }
-        None
+        lowest(self.count(), |r| {
+            CONTROL_LIMIT - self.free(r) < self.give(r, t)
+        })
     }
 
     // The lowest row that would go over its limit by what the move `t` takes there.
     fn over_by_take(&self, t: usize) -> Option<usize>
-        ensures { result ≡ lowest (λ r. nat_lt control_limit ((rows self.now r).free + (rows self.now r).take t)) 0 (row_count top) }
+        ensures { result ≡ lowest_of (λ r. nat_lt control_limit ((rows self.now r).free + (rows self.now r).take t)) 0 (row_count top) }
     {
-        'rows: for r in 0..self.count() {
-            if CONTROL_LIMIT - self.free(r) < self.take(r, t) {
-                return Some(r);
-            }
-        }
-        None
+        lowest(self.count(), |r| {
+            CONTROL_LIMIT - self.free(r) < self.take(r, t)
+        })
     }
 
     // Takes from each row what the move `t` takes there.
@@ -89,8 +81,7 @@ pub trait Rows {
         ensures { rows self.new ≡ (λ r. row_with (rows self.old r) ((rows self.old r).free - (rows self.old r).take t)) }
     {
         'rows: for r in 0..self.count() {
-            let left = self.free(r) - self.take(r, t);
-            self.set_free(r, left);
+            self.set_free(r, self.free(r) - self.take(r, t));
         }
     }
 
@@ -100,8 +91,7 @@ pub trait Rows {
         ensures { rows self.new ≡ (λ r. row_with (rows self.old r) ((rows self.old r).free + (rows self.old r).give t)) }
     {
         'rows: for r in 0..self.count() {
-            let more = self.free(r) + self.give(r, t);
-            self.set_free(r, more);
+            self.set_free(r, self.free(r) + self.give(r, t));
         }
     }
 
@@ -111,8 +101,7 @@ pub trait Rows {
         ensures { rows self.new ≡ (λ r. row_with (rows self.old r) ((rows self.old r).free + (rows self.old r).take t)) }
     {
         'rows: for r in 0..self.count() {
-            let more = self.free(r) + self.take(r, t);
-            self.set_free(r, more);
+            self.set_free(r, self.free(r) + self.take(r, t));
         }
     }
 
@@ -122,11 +111,5 @@ pub trait Rows {
 
     ghost missing: { (s : Self) (r : ℕ) → row_count top ≤ r → rows s r ≡ blank };
 
-    ghost one_way: { (s : Self) (r t : ℕ) → 0 < (rows s r).take t → (rows s r).give t ≡ 0 };
-
-    ghost low: { (s : Self) (r : ℕ) → (rows s r).free ≤ control_limit };
-
-    ghost small_takes: { (s : Self) (r t : ℕ) → (rows s r).take t ≤ most_control_arc };
-
-    ghost small_gives: { (s : Self) (r t : ℕ) → (rows s r).give t ≤ most_control_arc };
+    ghost kept: { (s : Self) (r : ℕ) → Kept (rows s r) };
 }

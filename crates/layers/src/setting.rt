@@ -7,7 +7,6 @@ ghost use Rattle.model.specs.Rule.{raise as raise_of};
 ghost use Rattle.model.specs.Sizes.{most_control_arc};
 ghost use Rattle.rules.specs.Rules.{rule_of, worked_of, answer_of};
 
-use crate::fault::fault;
 use crate::layer::Layer;
 use crate::rows::Rows;
 use model::fault::Fault;
@@ -18,34 +17,32 @@ use plant::plant::Plant;
 use rules::typed::TypedRule;
 use rules::work::work;
 use rules::worked::WorkedRule;
+use std::array;
 
 // By how much each move raises the rule.
 fn raises<N: Net>(rule: &WorkedRule, net: &N) -> [i32; MOST_MOVES]
     ensures value { (t : ℕ) → slice_index_or result t (pos 0) ≡ raise_of (N.Net.net net.now) (worked_of rule.now).weight t }
     ensures small { (t : ℕ) → unsigned_abs (slice_index_or result t (pos 0)) ≤ most_control_arc }
 {
-    let mut raises = [0; MOST_MOVES];
-    'moves: for t in 0..MOST_MOVES {
-        raises[t] = rule.raise(net, t);
-    }
-    raises
+    array::from_fn(|t| rule.raise(net, t))
 }
 
 impl<P: Plant, R: Rows> Layer<P, R> {
+    // Whether the row `r` has a rule; a missing row has none, and a shut layer has no rows.
+    pub(crate) fn row_in_use(&self, r: usize) -> bool
+        ensures { result ≡ ((pile_of R.Rows.top P.Net.net P.Plant.tokens R.Rows.rows self.now).rows r).in_use }
+    {
+        !self.is_shut() && self.rows.in_use(r)
+    }
+
     // The rule that the row `r` would be set to, or why it would not: nothing is changed.
     pub(crate) fn check_rule(&self, r: usize, typed: &TypedRule) -> Result<WorkedRule, Fault>
         ensures { Checks (pile_of R.Rows.top P.Net.net P.Plant.tokens R.Rows.rows self.now) r (rule_of typed.now) (answer_of result) }
     {
-        if self.is_shut() {
-            return Err(fault(Refusal::Shut));
-        }
-        if self.rows.in_use(r) {
-            return Err(fault(Refusal::RowInUse));
-        }
+        Fault::of_setting(Refusal::Shut).unless(!self.is_shut())?;
+        Fault::of_setting(Refusal::RowInUse).unless(!self.rows.in_use(r))?;
         let rule = work(&self.below, typed)?;
-        if rule.spare(&self.below) < 0 {
-            return Err(fault(Refusal::Broken));
-        }
+        Fault::of_setting(Refusal::Broken).unless(rule.spare(&self.below) >= 0)?;
         Ok(rule)
     }
 

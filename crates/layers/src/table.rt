@@ -1,85 +1,69 @@
-// The twelve rows of a board, and what no table of them is without.
-ghost use Rattle.std.specs.Prelude.{◌≡◌, ℕ, ◌<◌, ◌≤◌, length};
-ghost use Rattle.layers.specs.Rows.{rows_of};
-ghost use Rattle.model.specs.Layer.{board, blank};
-ghost use Rattle.model.specs.Sizes.{board_rows, control_limit, most_control_arc};
-ghost use Rattle.std.proofs.Common.{arith, rules};
-ghost use Rattle.layers.specs.Kept.{rows_past};
+// A table of so many rows, and what no value of it is without.
+ghost use Rattle.std.specs.Prelude.{◌≡◌, ℕ, length};
+ghost use Rattle.layers.specs.Kept.{Kept, rows_past, top_some, top_few};
+ghost use Rattle.layers.specs.Rows.{rows_of, top_of};
+ghost use Rattle.model.specs.Layer.{blank, row_count};
+ghost use Rattle.std.proofs.Common.{arith};
 
 use crate::row::Row;
 use crate::rows::Rows;
-use model::sizes::{BOARD_ROWS, MOST_MOVES};
+use model::sizes::MOST_MOVES;
 
 #[derive(Drop)]
-pub struct Table {
-    pub(crate) rows: [Row; BOARD_ROWS],
-    ghost all: { length rows ≡ board_rows },
-    ghost one_way: { (r t : ℕ) → 0 < (rows_of rows r).take t → (rows_of rows r).give t ≡ 0 },
-    ghost low: { (r : ℕ) → (rows_of rows r).free ≤ control_limit },
-    ghost small_takes: { (r t : ℕ) → (rows_of rows r).take t ≤ most_control_arc },
-    ghost small_gives: { (r t : ℕ) → (rows_of rows r).give t ≤ most_control_arc },
+pub struct Table<const N: usize> {
+    pub(crate) rows: [Row; N],
+    ghost all: { length rows ≡ N },
+    ghost sized: { row_count (top_of N) ≡ N },
+    ghost kept: { (r : ℕ) → Kept (rows_of rows r) },
 }
 
-impl Table {
-    // Twelve rows without rules.
+impl<const N: usize> Table<N> {
+    // Rows without rules.
     pub(crate) fn blank() -> Self
+        requires { row_count (top_of N) ≡ N }
         ensures { rows_of result.rows ≡ (λ r. blank) }
     {
         Table {
-            rows: [Row::blank(); BOARD_ROWS],
+            rows: [Row::blank(); N],
         }
     }
 }
 
-impl Rows for Table {
-    ghost top = { board };
+impl<const N: usize> Rows for Table<N> {
+    ghost top = { top_of N };
 
     ghost rows = { λ s. rows_of s.rows };
 
-    ghost some = { Prim.search rules };
+    ghost some = { top_some N };
 
-    ghost few = { Prim.search rules };
+    ghost few = { top_few N };
 
-    ghost missing = { λ s r l. rows_past s.rows r (omega (arith, s.all)) };
+    ghost missing = { λ s r l. rows_past s.rows r (omega (arith, s.all, s.sized)) };
 
-    ghost one_way = { Prim.search rules };
-
-    ghost low = { Prim.search rules };
-
-    ghost small_takes = { Prim.search rules };
-
-    ghost small_gives = { Prim.search rules };
+    ghost kept = { λ s. s.kept };
 
     fn count(&self) -> usize {
-        BOARD_ROWS
+        N
     }
 
     fn take(&self, r: usize, t: usize) -> u32 {
-        if r < BOARD_ROWS {
-            self.rows[r].take(t)
-        } else {
-            0
-        }
+        self.rows.get(r).map_or(0, |row| row.take(t))
     }
 
     fn give(&self, r: usize, t: usize) -> u32 {
-        if r < BOARD_ROWS {
-            self.rows[r].give(t)
-        } else {
-            0
-        }
+        self.rows.get(r).map_or(0, |row| row.give(t))
     }
 
     fn free(&self, r: usize) -> u32 {
-        if r < BOARD_ROWS { self.rows[r].free } else { 0 }
+        self.rows.get(r).map_or(0, |row| row.free)
     }
 
     fn in_use(&self, r: usize) -> bool {
-        r < BOARD_ROWS && self.rows[r].in_use
+        self.rows.get(r).is_some_and(|row| row.in_use)
     }
 
     fn set_free(&mut self, r: usize, free: u32) {
-        self.rows[r].set_free(free);
+        self.rows[r].free = free;
     }
 
     fn set_rule(&mut self, r: usize, raises: &[i32; MOST_MOVES], free: u32) {

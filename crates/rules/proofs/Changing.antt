@@ -6,13 +6,14 @@ use Rattle.model.specs.declared.refusal.Refusal.TheVariants.{TooLarge}
 use Rattle.model.specs.declared.fault.Fault.{Fault}
 use Rattle.model.specs.Sizes.{most_worked_weight, most_worked_bound}
 use Rattle.model.specs.Net.{Net}
-use Rattle.model.specs.Plant.{setting_fault}
+use Rattle.model.specs.Plant.{setting_fault, refuse_unless}
 use Rattle.model.specs.Rule.{Worked, in_range}
 use Rattle.model.specs.Working.{changed, fits}
 use Rattle.model.proofs.Working.{range_weights, range_bound}
 use Rattle.rules.specs.declared.round.Absorption.{Absorption}
 use Rattle.rules.specs.Rounding.{absorption_of, after_round, RoundAt}
 use Rattle.rules.proofs.Absorbing.{place_in}
+use Rattle.rules.proofs.Testing.{refused_unless}
 
 -- no place beyond the ground places comes to weigh
 pub changed_on_ground : {n : Net} {w : Worked} {t p : ℕ} → RoundAt n w t p → (q : ℕ) → n.ground_places ≤ q → (changed n w t p).weight q ≡ pos 0
@@ -50,8 +51,8 @@ module _ {n : Net} {w : Worked} {t p : ℕ} (due : RoundAt n w t p) {ws : List �
   fits_is : fits n (changed n w t p) ≡ fit
   fits_is = sym (o.fit_is ∙ (λ i. in_range most_worked_weight most_worked_bound n (λ q. weight_is q i) (bound_is i)))
 
-  pub too_large : (f : Fault) → f ≡ setting_fault TooLarge → fit ≡ false → Err f ≡ after_round n w t p
-  too_large f e large = ap Err e ∙ sym (cond-false _ _ _ (fits_is ∙ large))
+  pub too_large : (f : Fault) → f ≡ setting_fault TooLarge → (h : Fault) → Err h ≡ refuse_unless fit f → Err h ≡ after_round n w t p
+  too_large f e h shut = let k = refused_unless fit f h shut in ap Err (k.1 ∙ e) ∙ sym (cond-false _ _ _ (fits_is ∙ k.0))
 
   pub is_changed : (k : ℕ) → k ≡ w.rounds + 1 → fit ≡ true → Ok (record { weight = λ q. get_or ws q (pos 0); bound = b; rounds = k }) ≡ after_round n w t p
   is_changed k e small = (λ i. Ok (record { weight = λ q. weight_is q i; bound = bound_is i; rounds = (e ∙ add-one w.rounds) i })) ∙ sym (cond-true _ _ _ (fits_is ∙ small))

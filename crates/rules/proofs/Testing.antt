@@ -1,44 +1,41 @@
 -- A test of each number below k, as a loop makes it, and the tests of a rule's numbers.
-use Rattle.std.proofs.Common.{◌≡◌, ℕ, zero, suc, ◌+◌, ◌<◌, ◌≤◌, Bool, true, false, ◌&&◌, ◌||◌, eqb, ltb, ◌⊎◌, List, length, get_or, ℤ, pos, nat_abs, Ok, Err, sym, refl, ap, ◌∙◌, inl, inr, arith, below_more}
-use Rattle.std.proofs.lemmas.List.{get_or_past}
+use Rattle.std.proofs.Common.{◌≡◌, ℕ, zero, suc, ◌+◌, ◌-◌, ◌<◌, ◌≤◌, Bool, true, false, ◌&&◌, ◌||◌, eqb, ltb, leb, ◌⊎◌, List, length, get_or, take, drop, ℤ, pos, nat_abs, Ok, Err, sym, refl, ap, ◌∙◌, ap₂, inl, inr, add-one, length-drop, arith}
+use Rattle.std.specs.List.{list_all}
+use Rattle.std.proofs.lemmas.List.{get_or_past, get_or-take, get_or-drop, get_or_default, length-take}
+use Rattle.std.proofs.lemmas.List.Folds.{list_all_more}
+use Rattle.std.proofs.lemmas.List.Sums.{AllPass-from_list_all, list_all-from_AllPass}
 use Rattle.std.proofs.lemmas.Int.{ints}
-use Rattle.std.proofs.lemmas.Bool.{both_ways, cases_lt, ltb-true, ltb-false, eqb-true, le-ltb, eq-eqb, ne_eqb, and_from, and_left, or_from, or_left, or_right, or_cases, and_parts, cases_Bool, cond-true, cond-false}
+use Rattle.std.proofs.lemmas.Bool.{cases_lt, ltb-true, ltb-false, leb-true, le-leb, eqb-true, eq-eqb, and_from, and_left, or_from, or_left, or_right, or_cases, and_parts, cases_Bool, cond-true, cond-false}
 use Rattle.model.specs.declared.refusal.Refusal.TheVariants.{NotTyped}
 use Rattle.model.specs.declared.fault.Fault.{Fault}
 use Rattle.model.specs.Sizes.{most_places, most_all_places, most_weight, most_bound, most_worked_weight, most_worked_bound}
 use Rattle.model.specs.Net.{Net}
-use Rattle.model.specs.Plant.{setting_fault}
+use Rattle.model.specs.Plant.{setting_fault, refuse_unless}
 use Rattle.model.specs.Rule.{Rule, all_below, in_range}
 use Rattle.model.specs.Working.{ground_only, is_typed}
 use Rattle.model.proofs.Working.{all_below_says, range_weights, range_bound}
 use Rattle.rules.specs.Rounding.{before_rounds}
 
-pub all_pass : (f : ℕ → Bool) (k : ℕ) → ((i : ℕ) → i < k → f i ≡ true) → all_below f k ≡ true
+all_pass : (f : ℕ → Bool) (k : ℕ) → ((i : ℕ) → i < k → f i ≡ true) → all_below f k ≡ true
 all_pass f zero h = refl
 all_pass f (suc k) h = and_from (all_below f k) (f k) (all_pass f k (λ i l. h i (omega arith))) (h k (omega arith))
 
-pub one_fails : (f : ℕ → Bool) (k i : ℕ) → i < k → f i ≡ false → all_below f k ≡ false
-one_fails f k i l e =
-    elim (cases_Bool (all_below f k)) [ inl t ↦ absurd (both_ways (f i) e (all_below_says f k t i l)) | inr t ↦ t ]
+-- the weights of the places below n pass a test exactly where each of those places does
+pub all_front : (f : ℤ → Bool) (ws : List ℤ) (n : ℕ) → n ≤ length ws → list_all f (take n ws) ≡ all_below (λ p. f (get_or ws p (pos 0))) n
+all_front f ws zero l = refl
+all_front f ws (suc n) l =
+    ap (λ (k : ℕ). list_all f (take k ws)) (sym (add-one n)) ∙ list_all_more f ws n (pos 0) (omega arith)
+    ∙ ap (λ (b : Bool). b && f (get_or ws n (pos 0))) (all_front f ws n (omega arith))
 
--- weights of places from the ground on, as a loop finds that they are 0
-pub one_more_none : (ws : List ℤ) (ground_places p : ℕ) → ((q : ℕ) → ground_places ≤ q → q < p → get_or ws q (pos 0) ≡ pos 0) → get_or ws p (pos 0) ≡ pos 0
-    → (q : ℕ) → ground_places ≤ q → q < p + 1 → get_or ws q (pos 0) ≡ pos 0
-one_more_none ws ground_places p below here q h l = below_more (λ i. ground_places ≤ i → get_or ws i (pos 0) ≡ pos 0) p (λ i k m. below i m k) (λ m. here) q l h
-
-pub none_beyond : (ws : List ℤ) (ground_places p : ℕ) → ((q : ℕ) → ground_places ≤ q → q < p → get_or ws q (pos 0) ≡ pos 0) → length ws ≤ p
-    → (q : ℕ) → ground_places ≤ q → get_or ws q (pos 0) ≡ pos 0
-none_beyond ws ground_places p below l q h = elim (cases_lt q p) [ inl k ↦ below q h k | inr k ↦ get_or_past ws q (pos 0) (omega arith) ]
+same_truth : (s t : Bool) → (s ≡ true → t ≡ true) → (t ≡ true → s ≡ true) → s ≡ t
+same_truth true t h k = sym (h refl)
+same_truth false true h k = k refl
+same_truth false false h k = refl
 
 none : (z : ℤ) → nat_abs z ≡ 0 → z ≡ pos 0
 none z e = omega (arith, ints)
 
--- the place p weighs, beyond the ground places
-pub weighs_beyond : (n : Net) (r : Rule) (p : ℕ) → n.ground_places ≤ p → p < most_places → (r.weight p ≡ pos 0 → ⊥) → ground_only n r ≡ false
-weighs_beyond n r p h l ne = one_fails (λ i. ltb i n.ground_places || eqb (nat_abs (r.weight i)) 0) most_all_places p (omega arith)
-    (or_from (ltb p n.ground_places) (eqb (nat_abs (r.weight p)) 0) (le-ltb p n.ground_places h) (ne_eqb (nat_abs (r.weight p)) 0 (λ e. ne (none (r.weight p) e))))
-
-pub weighs_ground : (n : Net) (r : Rule) → ((p : ℕ) → n.ground_places ≤ p → r.weight p ≡ pos 0) → ground_only n r ≡ true
+weighs_ground : (n : Net) (r : Rule) → ((p : ℕ) → n.ground_places ≤ p → r.weight p ≡ pos 0) → ground_only n r ≡ true
 weighs_ground n r h = all_pass (λ i. ltb i n.ground_places || eqb (nat_abs (r.weight i)) 0) most_all_places (λ i l. at i)
   where
     at : (i : ℕ) → ltb i n.ground_places || eqb (nat_abs (r.weight i)) 0 ≡ true
@@ -46,6 +43,53 @@ weighs_ground n r h = all_pass (λ i. ltb i n.ground_places || eqb (nat_abs (r.w
       | inl t ↦ or_left (ltb i n.ground_places) (eqb (nat_abs (r.weight i)) 0) t
       | inr t ↦ or_right (ltb i n.ground_places) (eqb (nat_abs (r.weight i)) 0) (eq-eqb (nat_abs (r.weight i)) 0 (ap nat_abs (h i (ltb-false i n.ground_places t))))
     ]
+
+-- the numbers of a rule are small, as the code asks it: a whether the weights are, u being the size of the bound
+pub range_is : (m k : ℕ) (n : Net) (ws : List ℤ) (b : ℤ) (g : ℕ) → g ≡ n.ground_places → g ≤ length ws → (a : Bool) → a ≡ list_all (λ z. leb (nat_abs z) m) (take g ws)
+    → (u : ℕ) → u ≡ nat_abs b → (a && leb u k) ≡ in_range m k n (λ p. get_or ws p (pos 0)) b
+range_is m k n ws b g e few a is u same =
+    ap₂ (λ (x y : Bool). x && y) (is ∙ all_front (λ z. leb (nat_abs z) m) ws g few ∙ ap (all_below (λ p. leb (nat_abs (get_or ws p (pos 0))) m)) e) (ap (λ (x : ℕ). leb x k) same)
+
+-- the weights of the places from the ground on are 0 exactly where the rule weighs ground places only
+pub beyond_is : (n : Net) (ws : List ℤ) (b : ℤ) (g : ℕ) → g ≡ n.ground_places → length ws ≡ most_places → (r : Bool) → r ≡ list_all (λ z. leb (nat_abs z) 0) (take (most_places - g) (drop g ws))
+    → r ≡ ground_only n (record { weight = λ p. get_or ws p (pos 0); bound = b })
+beyond_is n ws b g e size r is = same_truth r (ground_only n rule) there back
+  where
+    rule : Rule
+    rule = record { weight = λ p. get_or ws p (pos 0); bound = b }
+
+    rest : List ℤ
+    rest = take (most_places - g) (drop g ws)
+
+    long : length rest ≡ most_places - g
+    long = omega (arith, length-take (most_places - g) (drop g ws), length-drop g ws)
+
+    read : (k : ℕ) (d : ℤ) → g + k < most_places → get_or rest k d ≡ get_or ws (g + k) (pos 0)
+    read k d l = get_or-take (most_places - g) (drop g ws) k d (omega arith) ∙ get_or-drop g ws k d ∙ get_or_default ws (g + k) d (pos 0) (omega arith)
+
+    there : r ≡ true → ground_only n rule ≡ true
+    there h = weighs_ground n rule at
+      where
+        at : (p : ℕ) → n.ground_places ≤ p → get_or ws p (pos 0) ≡ pos 0
+        at p l = elim (cases_lt p most_places) [
+          | inl m ↦
+              let k : g + (p - g) ≡ p = omega arith in
+              let low : leb (nat_abs (get_or rest (p - g) (pos 0))) 0 ≡ true = AllPass-from_list_all (λ z. leb (nat_abs z) 0) rest (sym is ∙ h) (p - g) (pos 0) (omega (arith, long)) in
+              none (get_or ws p (pos 0)) (omega (arith, leb-true _ _ low, ap nat_abs (read (p - g) (pos 0) (omega arith) ∙ ap (λ (q : ℕ). get_or ws q (pos 0)) k)))
+          | inr m ↦ get_or_past ws p (pos 0) (omega arith)
+        ]
+
+    back : ground_only n rule ≡ true → r ≡ true
+    back h = is ∙ list_all-from_AllPass (λ z. leb (nat_abs z) 0) rest each
+      where
+        off : (q : ℕ) → n.ground_places ≤ q → (ltb q n.ground_places ≡ true) ⊎ (eqb (nat_abs (get_or ws q (pos 0))) 0 ≡ true) → nat_abs (get_or ws q (pos 0)) ≡ 0
+        off q l (inl t) = absurd (omega (arith, ltb-true q n.ground_places t))
+        off q l (inr t) = eqb-true (nat_abs (get_or ws q (pos 0))) 0 t
+
+        each : (k : ℕ) (d : ℤ) → k < length rest → leb (nat_abs (get_or rest k d)) 0 ≡ true
+        each k d l =
+            let zero_there = off (g + k) (omega arith) (or_cases (ltb (g + k) n.ground_places) (eqb (nat_abs (get_or ws (g + k) (pos 0))) 0) (all_below_says (λ i. ltb i n.ground_places || eqb (nat_abs (get_or ws i (pos 0))) 0) most_all_places h (g + k) (omega (arith, long)))) in
+            le-leb (nat_abs (get_or rest k d)) 0 (omega (arith, zero_there, ap nat_abs (read k d (omega (arith, long)))))
 
 -- whether a rule can be typed, as the code asks it: x whether its numbers are small, z being its bound, and then y
 module _ (n : Net) (r : Rule) (x : Bool) (z : ℤ) (same : z ≡ r.bound) (small : x ≡ in_range most_weight most_bound n r.weight z) where
@@ -90,5 +134,10 @@ module _ (n : Net) (ws : List ℤ) (b : ℤ) (size : length ws ≡ most_places) 
   pub typed_is : (c : ℤ) → c ≡ b → Ok (record { weight = λ p. get_or ws p (pos 0); bound = c; rounds = 0 }) ≡ before_rounds n rule
   typed_is c e = (λ i. Ok (record { weight = λ p. get_or ws p (pos 0); bound = e i; rounds = 0 })) ∙ sym (cond-true _ _ _ typed)
 
-pub typed_refused : (n : Net) (r : Rule) (f : Fault) → f ≡ setting_fault NotTyped → is_typed n r ≡ false → Err f ≡ before_rounds n r
-typed_refused n r f e not = ap Err e ∙ sym (cond-false _ _ _ not)
+-- a check that refused: its test failed, and the fault is the one that it was given
+pub refused_unless : (b : Bool) (f h : Fault) → Err h ≡ refuse_unless b f → (b ≡ false) × (h ≡ f)
+refused_unless true f h e = let z : ◌≡◌ {A = ℕ} 0 1 = cc in absurd (omega arith)
+refused_unless false f h e = (refl, cc)
+
+pub typed_refused : (n : Net) (r : Rule) (b : Bool) → b ≡ is_typed n r → (f : Fault) → f ≡ setting_fault NotTyped → (h : Fault) → Err h ≡ refuse_unless b f → Err h ≡ before_rounds n r
+typed_refused n r b is f e h shut = let k = refused_unless b f h shut in ap Err (k.1 ∙ e) ∙ sym (cond-false _ _ _ (sym is ∙ k.0))

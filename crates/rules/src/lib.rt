@@ -1,7 +1,6 @@
 // Rules as they are typed, and working them into rules that no uncontrollable move can break.
 #![tactic(auto)]
 
-mod fault;
 pub mod gcd;
 mod product;
 mod ranges;

@@ -4,15 +4,15 @@ ghost use Rattle.model.specs.Sizes.{most_arc};
 ghost use Rattle.rules.specs.Rules.{worked_of, answer_of};
 ghost use Rattle.rules.specs.Rounding.{absorption_of, after_round, Modest, RoundAt};
 
-use crate::fault::fault;
 use crate::gcd::gcd;
 use crate::product::product;
-use crate::ranges::in_range;
+use crate::ranges::{WORKED, in_range};
 use crate::worked::WorkedRule;
 use model::fault::Fault;
 use model::refusal::Refusal;
-use model::sizes::{MOST_PLACES, MOST_WORKED_BOUND, MOST_WORKED_WEIGHT};
+use model::sizes::MOST_PLACES;
 use plant::net::Net;
+use std::array;
 
 // What a round does: every weight is multiplied by the factor, then the addend is added to the weight of the place.
 #[derive(Clone, Copy)]
@@ -39,16 +39,20 @@ impl WorkedRule {
         }
     }
 
+    // The weight of the place `p` times the factor.
+    fn scaled_weight(&self, factor: i32, p: usize) -> i32
+        requires { unsigned_abs factor ≤ most_arc }
+        ensures { result ≡ factor *ℤ (worked_of self.now).weight p }
+    {
+        product(factor, self.weight(p))
+    }
+
     // Every weight times the factor.
     fn scaled(&self, factor: i32) -> [i32; MOST_PLACES]
         requires { unsigned_abs factor ≤ most_arc }
         ensures { (p : ℕ) → slice_index_or result p (pos 0) ≡ factor *ℤ (worked_of self.now).weight p }
     {
-        let mut weights = [0; MOST_PLACES];
-        'places: for p in 0..MOST_PLACES {
-            weights[p] = product(factor, self.weights[p]);
-        }
-        weights
+        array::from_fn(|p| self.scaled_weight(factor, p))
     }
 
     // The weights after the round.
@@ -82,16 +86,8 @@ impl WorkedRule {
         let absorption = self.absorption(net, t, p);
         let weights = self.absorbed_weights(absorption);
         let bound = self.absorbed_bound(absorption);
-        let small = in_range(
-            net,
-            &weights,
-            bound,
-            MOST_WORKED_WEIGHT as u32,
-            MOST_WORKED_BOUND as u32,
-        );
-        if !small {
-            return Err(fault(Refusal::TooLarge));
-        }
+        let small = in_range(net, &weights, bound, WORKED);
+        Fault::of_setting(Refusal::TooLarge).unless(small)?;
         Ok(WorkedRule {
             weights,
             bound,

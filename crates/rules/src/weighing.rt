@@ -7,7 +7,6 @@ ghost use Rattle.rules.specs.Rules.{worked_of};
 
 use crate::product::product;
 use crate::worked::WorkedRule;
-use model::sizes::MOST_PLACES;
 use plant::net::Net;
 use plant::plant::Plant;
 
@@ -25,7 +24,7 @@ impl WorkedRule {
     pub fn weight(&self, p: usize) -> i32
         ensures { result ≡ (worked_of self.now).weight p }
     {
-        if p < MOST_PLACES { self.weights[p] } else { 0 }
+        self.weights.get(p).copied().unwrap_or(0)
     }
 
     pub fn bound(&self) -> i32

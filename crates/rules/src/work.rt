@@ -3,7 +3,6 @@ ghost use Rattle.std.specs.Prelude.{◌≡◌};
 ghost use Rattle.rules.specs.Rules.{rule_of, answer_of, Works};
 ghost use Rattle.rules.specs.Rounding.{OnGround, before_rounds};
 
-use crate::fault::fault;
 use crate::typed::TypedRule;
 use crate::worked::WorkedRule;
 use model::fault::Fault;
@@ -17,9 +16,7 @@ impl TypedRule {
         ensures answer { answer_of result ≡ before_rounds (N.Net.net net.now) (rule_of self.now) }
         ensures by_ground { OnGround (N.Net.net net.now) (answer_of result) }
     {
-        if !self.can_be_typed(net) {
-            return Err(fault(Refusal::NotTyped));
-        }
+        Fault::of_setting(Refusal::NotTyped).unless(self.can_be_typed(net))?;
         Ok(WorkedRule {
             weights: self.weights,
             bound: self.bound,
@@ -38,12 +35,12 @@ pub fn work<N: Net>(net: &N, typed: &TypedRule) -> Result<WorkedRule, Fault>
             return Ok(rule);
         };
         let Some(place) = rising.absorber else {
-            return Err(fault(Refusal::NotAbsorbed));
+            return Err(Fault::of_setting(Refusal::NotAbsorbed));
         };
         rule = rule.after_round(net, rising.transition, place)?;
     }
     match rule.rising(net) {
         None => Ok(rule),
-        Some(_) => Err(fault(Refusal::TooManyRounds)),
+        Some(_) => Err(Fault::of_setting(Refusal::TooManyRounds)),
     }
 }

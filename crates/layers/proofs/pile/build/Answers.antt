@@ -4,7 +4,7 @@ use Rattle.model.specs.Sizes.{monitor_rows}
 use Rattle.model.specs.Layer.{Pile, board, pile_net, pile_free, monitor_answer}
 use Rattle.rules.specs.Rules.{rule_of}
 use Rattle.layers.specs.Piles.{monitor_pile, stack_pile, new_pile}
-use Rattle.layers.specs.Rows.{only}
+use Rattle.layers.specs.Rows.{rows_of}
 use Rattle.layers.specs.Setting.{SetTo}
 use Rattle.layers.specs.Shut.{same_net, same_free}
 use Rattle.layers.proofs.Stacking.{stacked}
@@ -27,7 +27,7 @@ returns g c =
     let after = monitor_pile g.P.Net.net g.P.Plant.tokens m in
     let n = g.P.Net.net m.below in
     let over : _ ≡ new_pile board (pile_net after) (pile_free after) = c.new.ensures.fresh.pile
-    ∙ (λ i. new_pile board (sym (same_net monitor_rows n (only m.rows.row)) i) (sym (same_free monitor_rows n (only m.rows.row) (g.P.Plant.tokens m.below)) i)) in
+    ∙ (λ i. new_pile board (sym (same_net monitor_rows n (rows_of m.rows.rows)) i) (sym (same_free monitor_rows n (rows_of m.rows.rows) (g.P.Plant.tokens m.below)) i)) in
     record {
       answer = ok;
       kept = ap (λ s. s.below) c.new.ensures.below ∙ set.below ∙ c.new-monitor.ensures.below;

@@ -1,21 +1,17 @@
-use Rattle.std.proofs.Common.{refl, ◌∙◌, w32, SFits, rules}
-use Rattle.std.proofs.lemmas.Int.{to_z-of_z}
+use Rattle.std.proofs.Common.{◌≡◌, ℕ, ◌<◌, get_or, pos, rules}
+use Rattle.model.specs.Rule.{raise}
+use Rattle.model.specs.Sizes.{most_moves}
 use Rattle.rules.specs.Rules.{worked_of}
-use Rattle.layers.proofs.Raising.{raised_none, raised_more, raised_all, raised_small}
+use Rattle.layers.proofs.Made.{made_at}
+use Rattle.layers.proofs.Raising.{raised_all, raised_small}
 use Rattle.layers.proofs.setting.raises.Goals as goal
-
-pub moves-init : goal.moves-init
-moves-init g c = raised_none (g.N.Net.net c.args.net.now) (worked_of c.args.rule.now).weight _ refl
-
-pub moves-preserved : goal.moves-preserved
-moves-preserved g c =
-    let fits : SFits w32 c.raise.result = search rules in
-    raised_more (g.N.Net.net c.args.net.now) (worked_of c.args.rule.now).weight c.moves.t _ c.moves.raises c.moves-test.true (to_z-of_z w32 c.raise.result fits ∙ c.raise.ensures) c.moves.invariant
 
 pub returns : goal.returns
 returns g c =
     let n = g.N.Net.net c.args.net.now in
     let weight = (worked_of c.args.rule.now).weight in
     let R = g.met.N.Net.sound c.args.net.now in
-    let value = raised_all n weight R c.moves.t c.moves.raises c.moves-test.false c.moves.invariant in
-    record { value = value; small = raised_small n weight R c.args.rule.now.small_weights c.moves.raises value }
+    let found : (t : ℕ) → t < most_moves → get_or c.from_fn.result t (pos 0) ≡ raise n weight t =
+    λ t l. made_at _ c.from_fn.result most_moves (λ t z. z ≡ raise n weight t) (λ t z q l k. (search rules, search rules)) c.from_fn.ensures.items t (pos 0) l in
+    let value = raised_all n weight R c.from_fn.result c.from_fn.ensures.items.long found in
+    record { value = value; small = raised_small n weight R c.from_fn.result c.args.rule.now.small_weights value }

@@ -30,7 +30,7 @@ returns-in_default-absorber g c =
     let n = g.N.Net.net c.args.net.now in
     let typed = rule_of c.args.typed.now in
     let w = worked_of c.rounds.rule in
-    works n typed (Err c.fault.result) (stuck_now n typed w c.rounds.counter c.rounds.invariant c.rounds-test.true c.in-Some.rising c.in-Some.ensures c.fault.result c.in_default-absorber.is c.fault.ensures)
+    works n typed (Err c.of_setting.result) (stuck_now n typed w c.rounds.counter c.rounds.invariant c.rounds-test.true c.in-Some.rising c.in-Some.ensures c.of_setting.result c.in_default-absorber.is c.of_setting.ensures)
 
 pub after_round-requires : goal.after_round-requires
 after_round-requires g c =
@@ -69,4 +69,4 @@ returns-in-Some-rising g c =
     let n = g.N.Net.net c.args.net.now in
     let typed = rule_of c.args.typed.now in
     let w = worked_of c.rounds.rule in
-    works n typed (Err c.fault-in-Some-rising.result) (endless_now n typed w c.rounds.counter c.rounds.invariant c.rounds-test.false c.in-Some-rising.field-0 c.fault-in-Some-rising.result c.in-Some-rising.ensures c.fault-in-Some-rising.ensures)
+    works n typed (Err c.of_setting-in-Some-rising.result) (endless_now n typed w c.rounds.counter c.rounds.invariant c.rounds-test.false c.in-Some-rising.field-0 c.of_setting-in-Some-rising.result c.in-Some-rising.ensures c.of_setting-in-Some-rising.ensures)

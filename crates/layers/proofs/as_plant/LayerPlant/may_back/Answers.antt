@@ -30,7 +30,7 @@ returns-then-is_shut g c =
     elim c.then-is_shut.branch [
       | then-is_shut-via-then-is_shut w ↦ passed_shut size n (back_answer (layer_net size n rows) (layer_free size n free rows) c.args.t) (back_answer n free c.args.t) (rows_back size n rows c.args.t) (layer_begins size n free rows c.args.t).2 (sym w.if-is_shut.ensures) e
       | then-is_shut-via-else-is_shut+then-not-controllable w ↦
-          back_masked size n rows c.args.t (g.met.R.Rows.low s.rows) (sym w.if-not-controllable.ensures)
+          back_masked size n rows c.args.t (λ r. (g.met.R.Rows.kept s.rows r).low) (sym w.if-not-controllable.ensures)
           ∙ passed_own size n (back_answer (layer_net size n rows) (layer_free size n free rows) c.args.t) (back_answer n free c.args.t) (rows_back size n rows c.args.t) (layer_begins size n free rows c.args.t).2 (sym w.if-is_shut.ensures) e
     ]
 

@@ -6,17 +6,18 @@ use Rattle.layers.specs.Kept.{Kept, kept_free, kept_change, rows_set}
 use Rattle.layers.proofs.table.TableRows.set_free.Goals as goal
 
 pub invariant_of-self : goal.invariant_of-self
-invariant_of-self c =
+invariant_of-self g c =
     let s = c.args.self.now in
-    let was : (i : ℕ) → Kept (rows_of s.rows i) = λ i. record { one_way = s.one_way i; low = s.low i; small_takes = s.small_takes i; small_gives = s.small_gives i } in
-    let new : Kept (model.row_with (rows_of c.args.self.now.rows c.args.r) c.args.free) = kept_free (rows_of s.rows c.args.r) c.args.free c.requires.room (was c.args.r) in
-    let l : c.args.r < length s.rows = omega (arith, s.all, c.requires.row) in
-    let is = rows_set s.rows c.args.r c.set_free.new.self l in
-    let kept : (i : ℕ) → Kept (rows_of _ i) = λ i. subst (λ (f : ℕ → model.Row). Kept (f i)) (sym is) (kept_change (rows_of s.rows) c.args.r _ was (subst Kept (sym c.set_free.ensures) new) i) in
-    record { all = length-set s.rows c.args.r _ ∙ s.all; one_way = λ i. (kept i).one_way; low = λ i. (kept i).low; small_takes = λ i. (kept i).small_takes; small_gives = λ i. (kept i).small_gives }
+    let l : c.args.r < length s.rows = omega (arith, s.all, s.sized, c.requires.row) in
+    let new = kept_free (rows_of s.rows c.args.r) c.args.free c.requires.room (s.kept c.args.r) in
+    record {
+      all = length-set s.rows c.args.r _ ∙ s.all;
+      sized = s.sized;
+      kept = λ i. subst (λ (f : ℕ → model.Row). Kept (f i)) (sym (rows_set s.rows c.args.r _ l)) (kept_change (rows_of s.rows) c.args.r _ s.kept new i);
+    }
 
 pub returns : goal.returns
-returns c =
+returns g c =
     let s = c.args.self.now in
-    let l : c.args.r < length s.rows = omega (arith, s.all, c.requires.row) in
-    rows_set s.rows c.args.r c.set_free.new.self l ∙ ap (model.change_row (rows_of s.rows) c.args.r) c.set_free.ensures
+    let l : c.args.r < length s.rows = omega (arith, s.all, s.sized, c.requires.row) in
+    rows_set s.rows c.args.r _ l

@@ -1,19 +1,23 @@
 use Rattle.std.proofs.Common.{◌≡◌, length, ℤ, sym, ◌∙◌, arith, w32, SFits, to_z, of_z, rules}
 use Rattle.std.proofs.lemmas.Int.{ints, to_z-of_z}
+use Rattle.std.proofs.lemmas.Result.{err_from_is_err_and}
+use Rattle.model.proofs.Checks.{refuse_unless_ok}
 use Rattle.rules.specs.Rules.{rule_of}
 use Rattle.rules.proofs.Testing.{typed_on_ground, typed_weights_small, typed_bound_small, typed_is, typed_refused}
 use Rattle.rules.proofs.typed.TypedRule.before_rounds.Goals as goal
 
-pub returns-then-not-can_be_typed : goal.returns-then-not-can_be_typed
-returns-then-not-can_be_typed g c =
-    record { answer = typed_refused (g.N.Net.net c.args.net.now) (rule_of c.args.self.now) c.fault.result c.fault.ensures (sym c.can_be_typed.ensures ∙ c.if-not-can_be_typed.true); by_ground = tt }
+pub returns-in_err-unless : goal.returns-in_err-unless
+returns-in_err-unless g c =
+    let e = err_from_is_err_and c.from_residual.result c.from_residual.ensures.1 in
+    rw (e.1, e.2)
+    (record { answer = typed_refused (g.N.Net.net c.args.net.now) (rule_of c.args.self.now) c.can_be_typed.result c.can_be_typed.ensures _ c.of_setting.ensures _ c.in_err-unless.ensures; by_ground = tt })
 
 pub invariant_of-result : goal.invariant_of-result
 invariant_of-result g c =
     let n = g.N.Net.net c.args.net.now in
     let s = c.args.self.now in
     let size : length s.weights ≡ 32 = search rules in
-    let typed = sym c.can_be_typed.ensures ∙ c.if-not-can_be_typed.false in
+    let typed = sym c.can_be_typed.ensures ∙ refuse_unless_ok _ _ (sym c.in_ok-unless.ensures) in
     let low = typed_bound_small n s.weights s.bound size typed in
     record { small_weights = typed_weights_small n s.weights s.bound size typed; small_bound = omega (arith, ints, low); few_rounds = omega arith }
 
@@ -24,7 +28,7 @@ returns g c =
     let size : length s.weights ≡ 32 = search rules in
     let b : ℤ = s.bound in
     let fits : SFits w32 b = search rules in
-    let typed = sym c.can_be_typed.ensures ∙ c.if-not-can_be_typed.false in
+    let typed = sym c.can_be_typed.ensures ∙ refuse_unless_ok _ _ (sym c.in_ok-unless.ensures) in
     record {
       answer = typed_is n s.weights b size typed (to_z w32 (of_z w32 b)) (to_z-of_z w32 b fits);
       by_ground = typed_on_ground n s.weights b size typed;
