@@ -12,7 +12,7 @@ use Rattle.panel.proofs.obey.obey_all.Goals as goal
 
 pub orders-preserved : goal.orders-preserved
 orders-preserved g c =
-    let x : Cell = cell_said c.args.said.net_text.now c.args.said.net.now c.args.said.rules_text.now c.args.said.rules.now in
+    let x : Cell = cell_said c.args.said.now in
     let first : Ledger = ledger_of (board_pile g.P.Net.net g.P.Plant.tokens c.args.ledger.now.pile) c.args.ledger.now.grants in
     let l : Ledger = ledger_of (board_pile g.P.Net.net g.P.Plant.tokens c.orders.ledger.pile) c.orders.ledger.grants in
     let b = line_ends c.args.orders.now c.orders.start c.until-end.result c.requires.1 c.orders-test.true c.until-end.ensures.value in

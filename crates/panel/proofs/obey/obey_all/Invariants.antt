@@ -8,7 +8,7 @@ use Rattle.panel.proofs.obey.obey_all.Given as goal
 
 abbrev pub invariant-orders : goal.invariant-orders
 invariant-orders g l = record {
-  answered : vec_items l.out ++ answers (cell_said l.said.net_text.now l.said.net.now l.said.rules_text.now l.said.rules.now) (ledger_of (board_pile g.P.Net.net g.P.Plant.tokens l.ledger.pile) l.ledger.grants) (lines (drop l.start l.orders)) ≡ vec_items l.initial.out ++ answers (cell_said l.said.net_text.now l.said.net.now l.said.rules_text.now l.said.rules.now) (ledger_of (board_pile g.P.Net.net g.P.Plant.tokens l.initial.ledger.pile) l.initial.ledger.grants) (lines l.orders);
+  answered : vec_items l.out ++ answers (cell_said l.said) (ledger_of (board_pile g.P.Net.net g.P.Plant.tokens l.ledger.pile) l.ledger.grants) (lines (drop l.start l.orders)) ≡ vec_items l.initial.out ++ answers (cell_said l.said) (ledger_of (board_pile g.P.Net.net g.P.Plant.tokens l.initial.ledger.pile) l.initial.ledger.grants) (lines l.orders);
   within : l.start ≤ length l.orders;
 }
 
