@@ -1,6 +1,6 @@
 -- Where the fields of a net text's line stand in the text.
-use Rattle.std.proofs.Common.{◌≡◌, ℕ, ◌+◌, ◌-◌, ◌≤◌, List, ◌∷◌, ◌++◌, length, take, drop, codes, sym, refl, ap, ◌∙◌, subst, inl, inr, arith}
-use Rattle.std.proofs.lemmas.List.{take-append-drop, length-append, length-take-le, length-drop}
+use Rattle.std.proofs.Common.{◌≡◌, ℕ, ◌+◌, ◌≤◌, List, ◌∷◌, ◌++◌, length, drop, codes, sym, refl, ap, ◌∙◌, subst, inl, inr, arith}
+use Rattle.std.proofs.lemmas.List.{length-append, length-drop}
 use Rattle.formats.specs.Words.{joined, fields}
 use Rattle.formats.specs.NetClauses.{Shape, shape}
 use Rattle.formats.specs.NetClauses.Shape.{a_plant, a_place, a_move, an_arc, no_record}
@@ -21,15 +21,13 @@ joined_stands (an_arc p m t g) bs rest s e q n h =
     omega (arith, length-append p (9 ∷ (m ++ (9 ∷ (t ++ (9 ∷ g))))), length-append m (9 ∷ (t ++ (9 ∷ g))), length-append t (9 ∷ g))
 joined_stands no_record bs rest s e q n h = tt
 
--- the line from s to e
-pub line_stands : (bs : List ℕ) (s e : ℕ) → s ≤ e → e ≤ length bs → Stands bs s (shape (fields (take (e - s) (drop s bs))))
-line_stands bs s e le h =
-    let line = take (e - s) (drop s bs) in
-    let size : length line ≡ e - s = length-take-le (e - s) (drop s bs) (omega (arith, length-drop s bs)) in
+-- the line that stands at s
+pub line_stands : (bs : List ℕ) (s : ℕ) (line more : List ℕ) → drop s bs ≡ line ++ (10 ∷ more) → Stands bs s (shape (fields line))
+line_stands bs s line more there =
     elim (shape_fields (fields line)) [
       | inl q ↦ subst (λ (l : Shape). Stands bs s l) (sym q) tt
       | inr q ↦
           let whole : joined (fields_of (shape (fields line))) ≡ line = ap joined (sym q) ∙ joined_fields line in
-          joined_stands (shape (fields line)) bs (drop (e - s) (drop s bs)) s e
-          (sym (take-append-drop (e - s) (drop s bs)) ∙ ap (λ (z : List ℕ). z ++ drop (e - s) (drop s bs)) (sym whole)) (omega (arith, ap length whole)) h
+          joined_stands (shape (fields line)) bs (10 ∷ more) s (length line + s) (there ∙ ap (λ (z : List ℕ). z ++ (10 ∷ more)) (sym whole)) (omega (arith, ap length whole))
+          (omega (arith, length-drop s bs, ap length there, length-append line (10 ∷ more)))
     ]

@@ -3,15 +3,16 @@ ghost use Rattle.std.specs.Prelude.{◌≡◌, ℕ, ◌+◌, ◌^◌, ◌<◌, �
 ghost use Rattle.model.specs.Sizes.{most_bytes};
 ghost use Rattle.formats.specs.declared.kind.Kind.TheVariants.{Bank, Line};
 ghost use Rattle.formats.specs.NetText as said;
-ghost use Rattle.formats.specs.Words.{all, fields, last, lines};
-ghost use Rattle.formats.specs.Texts.{ended, read_lines};
+ghost use Rattle.formats.specs.Words.{all, fields, last};
+ghost use Rattle.formats.specs.Texts.{ended};
 ghost use Rattle.formats.specs.NetClauses.{shape};
 ghost use Rattle.formats.specs.NetClauses.Shape.{a_place, a_move, an_arc};
 ghost use Rattle.formats.specs.ReadNet.{is_shaped, is_whole, net_reader};
 ghost use Rattle.texts.specs.Lines.{shape_of};
 ghost use Rattle.texts.specs.Spans.{Told};
+ghost use Rattle.texts.specs.Walking.{numbered_lines, read_on, lines_left};
 ghost use Rattle.net_text.specs.Nets.{place_of, net_of};
-ghost use Rattle.net_text.specs.Reading.{Step, plant_read, end_read, Stands, Located, Locates, Placed, NetRead};
+ghost use Rattle.net_text.specs.Reading.{Step, plant_read, end_read, Stands, Located, Locates, line_count, NetRead};
 
 use crate::net::{NetText, Place};
 use crate::read::{read_arc, read_kind, read_move, read_place};
@@ -23,7 +24,7 @@ use texts::at::At;
 use texts::lines::{check_text, read_line};
 use texts::record::Record;
 use texts::stop::ReadError;
-use texts::words::until;
+use texts::walk::Lines;
 
 // Adds the place that the fields of a place line say.
 fn add_place(
@@ -191,46 +192,45 @@ fn check_end(net: &NetText, size: usize) -> Result<(), TextFault>
     }
 }
 
-// Reads the lines from `at` to the end of the text.
-fn read_lines(net: &mut NetText, text: &[u8], at: At) -> Result<(), ReadError>
-    requires { (at.byte ≤ length text.now) × (at.line ≤ at.byte + 1) × (length text.now ≤ most_bytes) × (last text.now ≡ 10) }
-    ensures answer { Told result (λ _. read_lines net_reader (Some (net_of text.now net.old)) at.line at.byte (lines (drop at.byte text.now)) ≡ ended net_reader (Some (net_of text.now net.new)) (length text.now)) (λ f. read_lines net_reader (Some (net_of text.now net.old)) at.line at.byte (lines (drop at.byte text.now)) ≡ Err f) }
-    ensures located { OnOk result (Placed text.now net.old at.byte → Located text.now net.new) }
+// Reads the lines that are still to come.
+fn read_lines(net: &mut NetText, text: &[u8], lines: Lines<'_>) -> Result<(), ReadError>
+    requires text_bound { (length text.now ≤ most_bytes) × (last text.now ≡ 10) }
+    requires to_come { lines_left lines ≡ drop (line_count net.old + 1) (numbered_lines text.now) }
+    requires located { Located text.now net.old }
+    ensures answer { Told result (λ _. read_on net_reader (Some (net_of text.now net.old)) (length text.now) (lines_left lines.entry) ≡ ended net_reader (Some (net_of text.now net.new)) (length text.now)) (λ f. read_on net_reader (Some (net_of text.now net.old)) (length text.now) (lines_left lines.entry) ≡ Err f) }
+    ensures located { OnOk result (Located text.now net.new) }
 {
-    let mut line = at.line;
-    let mut start = at.byte;
-    'lines: while start < text.len() {
-        let here = At { line, byte: start };
-        let end = until(text, start, b'\n');
-        let read = read_line(&text[start..end], here)?;
-        add_record(net, text, here, read)?;
-        line += 1;
-        start = end + 1;
+    for (at, line) in lines {
+        let read = read_line(line, at)?;
+        add_record(net, text, at, read)?;
     }
     Ok(())
 }
+
+// The fault of a text that has no line.
+const NO_LINE: TextFault = TextFault {
+    refusal: Refusal::Form,
+    line: 0,
+    byte: 0,
+};
 
 // Reads a net text: the net that it says, or where it is wrong and why.
 pub fn read_net(heap: Global, text: &[u8]) -> Result<NetText, ReadError>
     ensures { NetRead text.now result }
 {
     check_text(text)?;
-    let end = until(text, 0, b'\n');
-    let kind = read_plant(&text[0..end], At { line: 1, byte: 0 })?;
+    let mut lines = Lines::new(text);
+    let Some((at, first)) = lines.next() else {
+        return Err(ReadError::Refused(NO_LINE));
+    };
+    let kind = read_plant(first, at)?;
     let mut net = NetText {
         kind,
         places: Vec::new(heap),
         moves: Vec::new(heap),
         arcs: Vec::new(heap),
     };
-    read_lines(
-        &mut net,
-        text,
-        At {
-            line: 2,
-            byte: end + 1,
-        },
-    )?;
+    read_lines(&mut net, text, lines)?;
     check_end(&net, text.len())?;
     Ok(net)
 }

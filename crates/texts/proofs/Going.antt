@@ -16,11 +16,11 @@ pub record Left {X : Type 0} (R : Reader X) (bs : List ℕ) (x : X) (k s : ℕ) 
   pub few : k ≤ s + 1
 
 -- ---- one line, by its checks o and the value y after it
-passes_on : {X : Type 0} (o : Option Check) (k : ℕ) (y z : X) (F : X → Result X TextFault) → unless o k (Ok y) ≡ Ok z → unless o k (F y) ≡ F z
+pub passes_on : {X : Type 0} (o : Option Check) (k : ℕ) (y z : X) (F : X → Result X TextFault) → unless o k (Ok y) ≡ Ok z → unless o k (F y) ≡ F z
 passes_on None k y z F e = let q : y ≡ z = cc in ap F q
 passes_on (Some c) k y z F e = let q : ◌≡◌ {A = ℕ} 0 1 = cc in absurd (omega arith)
 
-fails_on : {X : Type 0} (o : Option Check) (k : ℕ) (y : X) (r : Result X TextFault) (f : TextFault) → unless o k (Ok y) ≡ Err f → unless o k r ≡ Err f
+pub fails_on : {X : Type 0} (o : Option Check) (k : ℕ) (y : X) (r : Result X TextFault) (f : TextFault) → unless o k (Ok y) ≡ Err f → unless o k r ≡ Err f
 fails_on None k y r f e = let q : ◌≡◌ {A = ℕ} 0 1 = cc in absurd (omega arith)
 fails_on (Some c) k y r f e = e
 

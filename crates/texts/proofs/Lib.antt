@@ -5,3 +5,4 @@ pub mod Checking
 pub mod Standing
 pub mod Going
 pub mod Whole
+pub mod Walking

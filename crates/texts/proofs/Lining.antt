@@ -1,21 +1,20 @@
 -- Whole texts, their lines and the fields of a line.
-use Rattle.std.proofs.Common.{◌≡◌, ℕ, ◌+◌, ◌-◌, ◌<◌, ◌≤◌, Bool, true, false, cond, ◌&&◌, eqb, ◌⊎◌, List, [], ◌∷◌, length, get_or, take, drop, Ok, Err, codes, Option, sym, refl, ap, ◌∙◌, subst, ap₂, inl, inr, arith}
+use Rattle.std.proofs.Common.{◌≡◌, ℕ, ◌+◌, ◌-◌, ◌<◌, ◌≤◌, Bool, true, false, cond, ◌&&◌, eqb, ◌⊎◌, List, [], ◌∷◌, length, get_or, take, drop, Ok, Err, Some, None, Option, sym, ap, ◌∙◌, ap₂, inl, inr, arith}
 use Rattle.std.specs.List.{prefix_len}
-use Rattle.std.specs.Str.{bytes_eq}
-use Rattle.std.proofs.lemmas.Slice.Eq.{bytes_eq-Decides}
-use Rattle.std.proofs.lemmas.List.{take_rest}
+use Rattle.std.specs.Borrow.{Bor}
+use Rattle.std.specs.Option.{option_map}
+use Rattle.std.specs.Slice.{IsGetRangeResult}
+use Rattle.std.proofs.lemmas.List.{take_rest, take_all}
 use Rattle.std.proofs.lemmas.Bool.{cond-true, cond-false, lt-ltb, le-leb, eq-eqb, ne_eqb}
 use Rattle.formats.specs.Words.{is_not, is_allowed, fields, last}
 use Rattle.formats.specs.Texts.{fault, is_text, bad_byte, unless_byte}
 use Rattle.formats.specs.declared.fault.TextFault.{TextFault}
 use Rattle.model.specs.declared.refusal.Refusal.TheVariants.{Byte}
-use Rattle.formats.specs.NetClauses.{Shape, shape}
-use Rattle.formats.specs.NetClauses.Shape.{a_place, no_record}
-use Rattle.formats.specs.RulesText.{RuleShape, rule_shape}
-use Rattle.formats.specs.RulesText.RuleShape.{a_fixed, a_rule, neither}
+use Rattle.formats.specs.NetClauses.{shape}
+use Rattle.formats.specs.NetClauses.Shape.{no_record}
 use Rattle.formats.proofs.Bridges.{last_is, fields_cut, fields_last, bytes_at, bytes_end}
 use Rattle.formats.proofs.Pieces.{fields_some}
-use Rattle.texts.specs.Lines.{bytes_check}
+use Rattle.texts.specs.Lines.{bytes_check, rest_fields}
 
 -- ---- a whole text
 pub text_at : (bs : List ℕ) → 0 < length bs → length bs ≤ 16384 → eqb (get_or bs (length bs - 1) 0) 10 ≡ is_text bs
@@ -42,35 +41,12 @@ pub bytes_fine : (bs : List ℕ) (k i : ℕ) → bad_byte k i (drop i bs) ≡ ba
 bytes_fine bs k i inv l = sym (ap (λ (o : Option TextFault). unless_byte o (Ok tt)) (sym inv ∙ bytes_end k i bs l))
 
 -- ---- fields
--- the field up to the tab at t, and what follows
-pub cut_at : (l : List ℕ) (t : ℕ) → t ≡ 0 + prefix_len (is_not 9) l → t < length l → fields l ≡ take (t - 0) l ∷ fields (take (length l - (t + 1)) (drop (t + 1) l))
-cut_at l t e h =
+-- the field up to the tab at t, and what follows, if there is a tab
+pub cut_is : (l : List ℕ) (t : ℕ) (r : Option (Bor (List ℕ))) → t ≡ 0 + prefix_len (is_not 9) l → t ≤ length l → IsGetRangeResult l (t + 1) (length l) r → fields l ≡ take t l ∷ rest_fields (option_map (λ (x : Bor (List ℕ)). x.now) r)
+cut_is l t None e h got = fields_last l (omega (arith, got)) ∙ ap (λ (z : List ℕ). z ∷ []) (sym (take_all t l (omega (arith, got))))
+cut_is l t (Some x) e h got =
     let q : prefix_len (is_not 9) l ≡ t = omega arith in
-    fields_cut l (omega arith) ∙ ap (λ (k : ℕ). take k l ∷ fields (drop (k + 1) l)) q
-    ∙ ap (λ (k : ℕ). take k l ∷ fields (drop (t + 1) l)) (omega arith) ∙ ap (λ (r : List ℕ). take (t - 0) l ∷ fields r) (sym (take_rest l (t + 1)))
-
-pub cut_none : (l : List ℕ) (t : ℕ) → t ≡ 0 + prefix_len (is_not 9) l → t ≤ length l → length l ≤ t → fields l ≡ l ∷ []
-cut_none l t e h g = fields_last l (omega arith)
-
--- ---- lines of four fields
-module _ (w a b c : List ℕ) where
-  abbrev Both : Shape → RuleShape → Type 0
-  Both s r = (shape (w ∷ a ∷ b ∷ c ∷ []) ≡ s) × (rule_shape (w ∷ a ∷ b ∷ c ∷ []) ≡ r)
-
-  as_word : (word : List ℕ) (s : Shape) (r : RuleShape) → (shape (word ∷ a ∷ b ∷ c ∷ []) ≡ s) × (rule_shape (word ∷ a ∷ b ∷ c ∷ []) ≡ r) → bytes_eq w word ≡ true → Both s r
-  as_word word s r h e = subst (λ (v : List ℕ). (shape (v ∷ a ∷ b ∷ c ∷ []) ≡ s) × (rule_shape (v ∷ a ∷ b ∷ c ∷ []) ≡ r)) (sym ((bytes_eq-Decides w word).0 e)) h
-
-  pub four_place : bytes_eq w (codes "place") ≡ true → Both (a_place a b c) neither
-  four_place e = as_word (codes "place") (a_place a b c) neither (refl, refl) e
-
-  pub four_fixed : bytes_eq w (codes "fixed") ≡ true → Both no_record (a_fixed a b c)
-  four_fixed e = as_word (codes "fixed") no_record (a_fixed a b c) (refl, refl) e
-
-  pub four_rule : bytes_eq w (codes "rule") ≡ true → Both no_record (a_rule a b c)
-  four_rule e = as_word (codes "rule") no_record (a_rule a b c) (refl, refl) e
-
-  pub four_none : bytes_eq w (codes "place") ≡ false → bytes_eq w (codes "fixed") ≡ false → bytes_eq w (codes "rule") ≡ false → Both no_record neither
-  four_none p f r = (cond-false _ _ _ p, cond-false _ _ _ f ∙ cond-false _ _ _ r)
+    fields_cut l (omega (arith, got.0.0)) ∙ ap (λ (k : ℕ). take k l ∷ fields (drop (k + 1) l)) q ∙ ap (λ (r : List ℕ). take t l ∷ fields r) (sym (take_rest l (t + 1)) ∙ sym got.0.2)
 
 -- ---- lines of more than five
 pub five_more : (w a b c d r : List ℕ) → shape (w ∷ a ∷ b ∷ c ∷ d ∷ fields r) ≡ no_record

@@ -1,10 +1,14 @@
 -- Names as parts of a text, and looking them up.
-use Rattle.std.proofs.Common.{◌≡◌, ℕ, suc, ◌+◌, ◌-◌, ◌<◌, ◌≤◌, min, Bool, true, false, cond, not, ◌&&◌, ltb, ◌⊎◌, List, [], ◌∷◌, ◌++◌, map, length, get_or, take, drop, is_some, Some, None, sym, refl, ap, ◌∙◌, inl, inr, arith}
+use Rattle.std.proofs.Common.{◌≡◌, ℕ, suc, ◌+◌, ◌-◌, ◌<◌, ◌≤◌, min, Bool, true, false, cond, not, ◌&&◌, ltb, ◌⊎◌, HoldsAt, List, [], ◌∷◌, ◌++◌, map, length, take, drop, is_some, Some, None, Option, MatchOption, sym, refl, ap, ◌∙◌, inl, inr, arith}
+use Rattle.std.specs.List.{AllWithin}
+use Rattle.std.specs.Option.{unwrap_or}
 use Rattle.std.specs.Str.{bytes_eq}
-use Rattle.std.proofs.lemmas.List.{take_all, drop_all, length-drop, length-map, get_or-map, at_drop_more, at_drop_all}
+use Rattle.std.proofs.lemmas.Iterator.{index_from_first}
+use Rattle.std.proofs.lemmas.List.{take_all, drop_all, length-drop, length-map}
 use Rattle.std.proofs.lemmas.Bool.{cases_lt, cond-true, cond-false, lt-ltb, le-ltb}
 use Rattle.formats.specs.Words.{index_of, is_known, is_new}
 use Rattle.texts.specs.Spans.{found}
+use Rattle.texts.proofs.Scanning.{Yes, No}
 
 -- ---- a part of a text, cut to the text
 pub clamped : (bs : List ℕ) (s n st ln : ℕ) → st ≡ min s (length bs) → ln ≡ min n (length bs - st) → take (st + ln - st) (drop st bs) ≡ take n (drop s bs)
@@ -22,40 +26,17 @@ clamped bs s n st ln e f = ap (λ (k : ℕ). take k (drop st bs)) short ∙ go (
     go (inr l) =
         take_all ln (drop st bs) (omega (arith, length-drop st bs)) ∙ drop_all st bs (omega arith) ∙ sym (take_all n (drop s bs) (omega (arith, length-drop s bs)) ∙ drop_all s bs l)
 
--- ---- the first that has the name: the names before i have it not
-module _ (ns : List (List ℕ)) (n : List ℕ) (i : ℕ) (inv : index_of ns n ≡ i + index_of (drop i ns) n) where
-  found_here : i < length ns → bytes_eq (get_or ns i []) n ≡ true → Some i ≡ found ns n
-  found_here l e =
-      let here : index_of ns n ≡ i = inv ∙ ap (λ (k : ℕ). i + k) (at_drop_more (λ (ms : List (List ℕ)). index_of ms n) ns i [] l ∙ cond-true _ _ _ e) ∙ omega arith in
-      ap Some (sym here) ∙ sym (cond-true _ _ _ (lt-ltb (index_of ns n) (length ns) (omega arith)))
+-- ---- the first of the items, by their names f, that has the name n
+module _ {X : Type 0} (f : X → List ℕ) (n : List ℕ) where
+  abbrev named : X → Bool
+  named x = bytes_eq (f x) n
 
-  found_on : i < length ns → bytes_eq (get_or ns i []) n ≡ false → index_of ns n ≡ i + 1 + index_of (drop (i + 1) ns) n
-  found_on l e =
-      let on : index_of (drop i ns) n ≡ suc (index_of (drop (i + 1) ns) n) = at_drop_more (λ (ms : List (List ℕ)). index_of ms n) ns i [] l ∙ cond-false _ _ _ e in
-      omega arith
-
-  found_none : length ns ≤ i → None ≡ found ns n
-  found_none l =
-      let end : index_of (drop i ns) n ≡ 0 = at_drop_all (λ (ms : List (List ℕ)). index_of ms n) ns i l in
-      sym (cond-false _ _ _ (le-ltb (index_of ns n) (length ns) (omega arith)))
-
--- the same for items by their names f; x is the item at i, and p its name as the code read it
-module _ {X : Type 0} (f : X → List ℕ) (xs : List X) (n : List ℕ) (i : ℕ) (inv : index_of (map f xs) n ≡ i + index_of (drop i (map f xs)) n) where
-  module _ (x : X) (is : x ≡ get_or xs i x) (l : i < length xs) (p : List ℕ) (named : p ≡ f x) where
-    same_name : bytes_eq (get_or (map f xs) i []) n ≡ bytes_eq p n
-    same_name = ap (λ (m : List ℕ). bytes_eq m n) (get_or-map f xs i x [] l ∙ sym (ap f is) ∙ sym named)
-
-    inside : i < length (map f xs)
-    inside = omega (arith, length-map xs f)
-
-    pub item_here : true ≡ bytes_eq p n → Some i ≡ found (map f xs) n
-    item_here e = found_here (map f xs) n i inv inside (same_name ∙ sym e)
-
-    pub item_on : false ≡ bytes_eq p n → index_of (map f xs) n ≡ i + 1 + index_of (drop (i + 1) (map f xs)) n
-    item_on e = found_on (map f xs) n i inv inside (same_name ∙ sym e)
-
-  pub item_none : length xs ≤ i → None ≡ found (map f xs) n
-  item_none l = found_none (map f xs) n i inv (omega (arith, length-map xs f))
+  pub found_is : (xs : List X) (r : Option ℕ) → MatchOption r (AllWithin (No named) xs 0 (length xs)) (λ i. (i < length xs) × HoldsAt (Yes named) xs i × AllWithin (No named) xs 0 i) → r ≡ found (map f xs) n
+  found_is xs r h = go r h (index_from_first (λ ys. index_of (map f ys) n) (Yes named) (No named) refl (λ x ys e. cond-true _ _ _ e) (λ x ys e. cond-false _ _ _ e ∙ omega arith) xs r h)
+    where
+      go : (o : Option ℕ) → MatchOption o (AllWithin (No named) xs 0 (length xs)) (λ i. (i < length xs) × HoldsAt (Yes named) xs i × AllWithin (No named) xs 0 i) → index_of (map f xs) n ≡ unwrap_or o (length xs) → o ≡ found (map f xs) n
+      go None q k = sym (cond-false _ _ _ (le-ltb (index_of (map f xs) n) (length (map f xs)) (omega (arith, k, length-map xs f))))
+      go (Some i) q k = ap Some (sym k) ∙ sym (cond-true _ _ _ (lt-ltb (index_of (map f xs) n) (length (map f xs)) (omega (arith, k, q.0, length-map xs f))))
 
 -- ---- a name that none has
 not_known : (ns : List (List ℕ)) (n : List ℕ) → is_new ns n ≡ not (is_known ns n)

@@ -1,9 +1,12 @@
 -- Loops that go through bytes one by one.
-use Rattle.std.proofs.Common.{◌≡◌, ℕ, ◌+◌, ◌-◌, ◌*◌, ◌^◌, ◌<◌, ◌≤◌, Bool, true, false, ◌&&◌, leb, List, [], ◌∷◌, length, get_or, take, drop, sym, ap, ◌∙◌, pow-suc, add-one, arith}
+use Rattle.std.proofs.Common.{◌≡◌, ℕ, zero, suc, ◌+◌, ◌-◌, ◌*◌, ◌^◌, ◌<◌, ◌≤◌, min, Bool, true, false, cond, not, ◌&&◌, leb, eqb, ◌⊎◌, MatchBool, HoldsAt, List, [], ◌∷◌, length, get_or, take, drop, Option, MatchOption, sym, refl, ap, ◌∙◌, pow-suc, add-one, inl, inr, arith}
 use native.Mathlib.Nat.{pow-le-pow_right}
-use Rattle.std.proofs.lemmas.List.{at_drop_more, at_drop_all, take_rest}
-use Rattle.std.proofs.lemmas.Bool.{and_left, false≢true}
-use Rattle.formats.specs.Words.{is_letter, is_name, all}
+use Rattle.std.specs.List.{AllWithin, prefix_len}
+use Rattle.std.specs.Option.{unwrap_or}
+use Rattle.std.proofs.lemmas.Iterator.{index_from_first}
+use Rattle.std.proofs.lemmas.List.{at_drop_more, at_drop_all, take_rest, drop_all}
+use Rattle.std.proofs.lemmas.Bool.{and_left, and_right, false≢true, cases_lt}
+use Rattle.formats.specs.Words.{is_letter, is_name, is_not, all}
 use Rattle.texts.specs.Numbers.{is_word, most_digits}
 
 -- f says that p holds of each element; an index comes as far as f of what is left is f of the whole
@@ -19,6 +22,43 @@ module _ {X : Type 0} (p : X → Bool) (f : List X → Bool) (none : f [] ≡ tr
 
   pub each_ends : (xs : List X) (i : ℕ) → length xs ≤ i → f (drop i xs) ≡ f xs → f xs ≡ true
   each_ends xs i l inv = sym inv ∙ at_drop_all f xs i l ∙ none
+
+-- ---- what a chain over a slice answers, where each element is asked whether p holds
+module _ {X : Type 0} (p : X → Bool) where
+  abbrev pub Yes : X → Type 0
+  Yes x = p x ≡ true
+
+  abbrev pub No : X → Type 0
+  No x = p x ≡ false
+
+  all_true : (xs : List X) → AllWithin Yes xs 0 (length xs) → all p xs ≡ true
+  all_true [] h = refl
+  all_true (x ∷ xs) h = ap (λ (b : Bool). b && all p xs) (h 0 x (omega arith) (omega arith)) ∙ all_true xs (λ k d l n. h (suc k) d (omega arith) (omega arith))
+
+  all_false : (xs : List X) (k : ℕ) → k < length xs → HoldsAt No xs k → all p xs ≡ false
+  all_false [] k l h = absurd (omega arith)
+  all_false (x ∷ xs) zero l h = ap (λ (b : Bool). b && all p xs) (h x)
+  all_false (x ∷ xs) (suc k) l h = and_right (p x) (all p xs) (all_false xs k (omega arith) h)
+
+  -- of `all`
+  pub all_is : (xs : List X) (r : Bool) → MatchBool r (AllWithin Yes xs 0 (length xs)) ((k : ℕ) × (k < length xs) × HoldsAt No xs k) → r ≡ all p xs
+  all_is xs true h = sym (all_true xs h)
+  all_is xs false h = sym (all_false xs h.0 h.1 h.2)
+
+-- of `position` where the byte b is looked for
+pub first_is : (b : ℕ) (xs : List ℕ) (r : Option ℕ) → MatchOption r (AllWithin (No (λ x. eqb x b)) xs 0 (length xs)) (λ i. (i < length xs) × HoldsAt (Yes (λ x. eqb x b)) xs i × AllWithin (No (λ x. eqb x b)) xs 0 i)
+    → prefix_len (is_not b) xs ≡ unwrap_or r (length xs)
+first_is b =
+    index_from_first (prefix_len (is_not b)) (Yes (λ x. eqb x b)) (No (λ x. eqb x b)) refl (λ x xs e. ap (λ (t : Bool). cond (not t) (1 + prefix_len (is_not b) xs) 0) e)
+    (λ x xs e. ap (λ (t : Bool). cond (not t) (1 + prefix_len (is_not b) xs) 0) e ∙ omega arith)
+
+-- the bytes from s on, none where s lies beyond the end
+pub rest_from : (bs : List ℕ) (s m : ℕ) → m ≡ min s (length bs) → take (length bs - m) (drop m bs) ≡ drop s bs
+rest_from bs s m e = take_rest bs m ∙ go (cases_lt s (length bs))
+  where
+    go : (s < length bs) ⊎ (length bs ≤ s) → drop m bs ≡ drop s bs
+    go (inl l) = ap (λ (k : ℕ). drop k bs) (omega arith)
+    go (inr l) = drop_all m bs (omega arith) ∙ sym (drop_all s bs l)
 
 -- one digit more
 pub power_more : (v d i : ℕ) → v < 10 ^ i → d ≤ 9 → v * 10 + d < 10 ^ (i + 1)

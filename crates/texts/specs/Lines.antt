@@ -4,6 +4,7 @@
 --   rest_fields r    the fields of what follows the first tab of a line, if anything does
 --   shape_of r       the read line, as the net text's lines are told apart
 --   rule_shape_of r  the same for the rules text
+--   RecordOf fs r    r is the record of a line with the fields fs, if it is one
 --   LineRead fs at r r is the record of a line with the fields fs that starts at `at`
 use Rattle.std.specs.Prelude.{◌≡◌, ℕ, cond, List, [], Some, None, Ok, Err, Option, Result}
 use Rattle.model.specs.declared.refusal.Refusal.TheVariants.{Form, NoRecord}
@@ -43,6 +44,10 @@ rule_shape_of (Move n k) = neither
 rule_shape_of (Arc p m t g) = neither
 rule_shape_of (Fixed n s b) = a_fixed n.now s.now b.now
 rule_shape_of (Rule n s b) = a_rule n.now s.now b.now
+
+abbrev pub RecordOf : List (List ℕ) → Option Record → Type 0
+RecordOf fs None = (shape fs ≡ no_record) × (rule_shape fs ≡ neither)
+RecordOf fs (Some r) = (shape fs ≡ shape_of r) × (rule_shape fs ≡ rule_shape_of r)
 
 abbrev pub LineRead : List (List ℕ) → At → Result Record TextFault → Type 0
 LineRead fs at (Ok r) = (shape fs ≡ shape_of r) × (rule_shape fs ≡ rule_shape_of r)

@@ -4,3 +4,6 @@ pub struct At {
     pub line: usize,
     pub byte: usize,
 }
+
+// Where a refusal of the whole text stands.
+pub const WHOLE: At = At { line: 0, byte: 0 };

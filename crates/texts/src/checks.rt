@@ -40,10 +40,7 @@ impl At {
     pub fn number(self, field: &[u8], digits: usize, byte: usize) -> Result<u32, TextFault>
         ensures { result ≡ checked (check (is_numeral (min digits most_digits) field.now) Field byte ∷ []) self.line (value field.now) }
     {
-        match number(field, digits) {
-            Some(n) => Ok(n),
-            None => Err(self.fault(Refusal::Field, byte)),
-        }
+        number(field, digits).ok_or(self.fault(Refusal::Field, byte))
     }
 
     // The index of the item that the field names.
@@ -57,9 +54,6 @@ impl At {
         ensures { result ≡ checked (known_checks (map (λ x. part_of text.now (N.Named.title x)) items.now) byte field.now) self.line (index_of (map (λ x. part_of text.now (N.Named.title x)) items.now) field.now) }
     {
         self.check(is_name(field), Refusal::Field, byte)?;
-        match find(items, text, field) {
-            Some(i) => Ok(i),
-            None => Err(self.fault(Refusal::NameUnknown, byte)),
-        }
+        find(items, text, field).ok_or(self.fault(Refusal::NameUnknown, byte))
     }
 }

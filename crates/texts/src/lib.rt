@@ -9,4 +9,5 @@ pub mod names;
 pub mod record;
 pub mod span;
 pub mod stop;
+pub mod walk;
 pub mod words;

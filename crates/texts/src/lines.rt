@@ -5,11 +5,11 @@ ghost use Rattle.formats.specs.Words.{is_allowed, fields};
 ghost use Rattle.formats.specs.Texts.{is_text, fault};
 ghost use Rattle.formats.specs.NetClauses.{shape};
 ghost use Rattle.formats.specs.RulesText.{rule_shape};
-ghost use Rattle.texts.specs.Lines.{bytes_check, text_check, rest_fields, LineRead};
+ghost use Rattle.texts.specs.Lines.{bytes_check, text_check, rest_fields, RecordOf, LineRead};
 
-use crate::at::At;
+use crate::at::{At, WHOLE};
 use crate::record::Record;
-use crate::words::{same, until};
+use crate::words::until;
 use formats::fault::TextFault;
 use model::refusal::Refusal;
 use model::sizes::MOST_BYTES;
@@ -33,7 +33,7 @@ fn is_text(text: &[u8]) -> bool
 fn is_allowed(b: u8) -> bool
     ensures { result ≡ is_allowed b }
 {
-    b == b'\t' || b == b'\n' || (33 <= b && b <= 126)
+    matches!(b, b'\t' | b'\n' | 33..=126)
 }
 
 // Refuses the first byte that no text may have.
@@ -43,11 +43,7 @@ fn check_bytes(text: &[u8]) -> Result<(), TextFault>
     let mut line = 1;
     for (i, b) in text.iter().enumerate() {
         if !is_allowed(*b) {
-            return Err(TextFault {
-                refusal: Refusal::Byte,
-                line,
-                byte: i,
-            });
+            return Err(At { line, byte: i }.fault(Refusal::Byte, i));
         }
         if *b == b'\n' {
             line += 1;
@@ -61,11 +57,7 @@ pub fn check_text(text: &[u8]) -> Result<(), TextFault>
     ensures { result ≡ text_check text.now }
 {
     if !is_text(text) {
-        return Err(TextFault {
-            refusal: Refusal::Form,
-            line: 0,
-            byte: 0,
-        });
+        return Err(WHOLE.fault(Refusal::Form, 0));
     }
     check_bytes(text)
 }
@@ -75,95 +67,74 @@ pub fn cut<'a>(line: &'a [u8]) -> (&'a [u8], Option<&'a [u8]>)
     ensures { fields line.now ≡ result.0.now ∷ rest_fields (option_map (λ x. x.now) result.1) }
 {
     let tab = until(line, 0, b'\t');
-    if tab < line.len() {
-        (&line[0..tab], Some(&line[tab + 1..]))
-    } else {
-        (line, None)
-    }
+    (&line[..tab], line.get(tab + 1..))
 }
 
 // The record of a line of four fields.
-fn of_four<'a>(
-    word: &[u8],
-    a: &'a [u8],
-    b: &'a [u8],
-    c: &'a [u8],
-    at: At,
-) -> Result<Record<'a>, TextFault>
-    ensures { LineRead (word.now ∷ a.now ∷ b.now ∷ c.now ∷ []) at result }
+fn of_four<'a>(word: &[u8], a: &'a [u8], b: &'a [u8], c: &'a [u8]) -> Option<Record<'a>>
+    ensures { RecordOf (word.now ∷ a.now ∷ b.now ∷ c.now ∷ []) result }
 {
-    if same(word, b"place") {
-        Ok(Record::Place {
+    match word {
+        b"place" => Some(Record::Place {
             name: a,
             tokens: b,
             limit: c,
-        })
-    } else if same(word, b"fixed") {
-        Ok(Record::Fixed {
+        }),
+        b"fixed" => Some(Record::Fixed {
             name: a,
             sum: b,
             bound: c,
-        })
-    } else if same(word, b"rule") {
-        Ok(Record::Rule {
+        }),
+        b"rule" => Some(Record::Rule {
             name: a,
             sum: b,
             bound: c,
-        })
-    } else {
-        Err(TextFault {
-            refusal: Refusal::NoRecord,
-            line: at.line,
-            byte: at.byte,
-        })
+        }),
+        _ => None,
     }
 }
 
-// The record of a line, by its word and its count of fields.
-pub fn read_line<'a>(line: &'a [u8], at: At) -> Result<Record<'a>, TextFault>
-    ensures { LineRead (fields line.now) at result }
+// The record of a line, if it is one, by its word and its count of fields.
+fn record_of<'a>(line: &'a [u8]) -> Option<Record<'a>>
+    ensures { RecordOf (fields line.now) result }
 {
-    let none = Err(TextFault {
-        refusal: Refusal::NoRecord,
-        line: at.line,
-        byte: at.byte,
-    });
     let (word, rest) = cut(line);
+    let (a, rest) = cut(rest?);
     let Some(rest) = rest else {
-        return none;
-    };
-    let (a, rest) = cut(rest);
-    let Some(rest) = rest else {
-        return if same(word, b"plant") {
-            Ok(Record::Plant { kind: a })
-        } else {
-            none
+        return match word {
+            b"plant" => Some(Record::Plant { kind: a }),
+            _ => None,
         };
     };
     let (b, rest) = cut(rest);
     let Some(rest) = rest else {
-        return if same(word, b"move") {
-            Ok(Record::Move { name: a, letter: b })
-        } else {
-            none
+        return match word {
+            b"move" => Some(Record::Move { name: a, letter: b }),
+            _ => None,
         };
     };
     let (c, rest) = cut(rest);
     let Some(rest) = rest else {
-        return of_four(word, a, b, c, at);
+        return of_four(word, a, b, c);
     };
     let (d, rest) = cut(rest);
     let None = rest else {
-        return none;
+        return None;
     };
-    if same(word, b"arc") {
-        Ok(Record::Arc {
+    match word {
+        b"arc" => Some(Record::Arc {
             place: a,
             transition: b,
             take: c,
             give: d,
-        })
-    } else {
-        none
+        }),
+        _ => None,
     }
+}
+
+// The record of a line, which stands at `at`.
+pub fn read_line<'a>(line: &'a [u8], at: At) -> Result<Record<'a>, TextFault>
+    ensures { LineRead (fields line.now) at result }
+{
+    record_of(line).ok_or(at.fault(Refusal::NoRecord, at.byte))
 }

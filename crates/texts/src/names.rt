@@ -5,7 +5,6 @@ ghost use Rattle.texts.specs.Spans.{part_of, found};
 ghost use Rattle.texts.specs.declared.span.Span.{Span};
 
 use crate::span::Span;
-use crate::words::same;
 
 // What has a name that is a part of a text.
 pub trait Named {
@@ -29,12 +28,9 @@ pub fn find<N: Named>(items: &[N], text: &[u8], name: &[u8]) -> Option<usize>
     ensures value { result ≡ found (map (λ x. part_of text.now (N.Named.title x)) items.now) name.now }
     ensures within { IfSome result (λ i. i < length items.now) }
 {
-    for (i, item) in items.iter().enumerate() {
-        if same(part(text, item.name()), name) {
-            return Some(i);
-        }
-    }
-    None
+    items
+        .iter()
+        .position(|item| part(text, item.name()) == name)
 }
 
 // Whether no item has the name.

@@ -6,6 +6,9 @@ ghost use Rattle.model.specs.Sizes.{name_tail};
 ghost use Rattle.formats.specs.Words.{is_letter, is_digit, is_name, is_not, all};
 ghost use Rattle.texts.specs.Numbers.{is_word, digits_of, number_of, most_digits};
 
+// The most bytes of a name after its first letter.
+pub const NAME_TAIL: usize = 11;
+
 // The most digits of which every number fits 32 bits.
 pub const MOST_DIGITS: usize = 9;
 
@@ -21,61 +24,51 @@ pub fn until(text: &[u8], start: usize, b: u8) -> usize
     ensures value { result ≡ start + prefix_len (is_not b) (drop start text.now) }
     ensures within { start ≤ length text.now → result ≤ length text.now }
 {
-    let mut end = start;
-    'bytes: while end < text.len() && text[end] != b {
-        end += 1;
-    }
-    end
+    let rest = &text[start.min(text.len())..];
+    start + rest.iter().position(|c| *c == b).unwrap_or(rest.len())
 }
 
 pub fn is_letter(b: u8) -> bool
     ensures { result ≡ is_letter b }
 {
-    (b'A' <= b && b <= b'Z') || (b'a' <= b && b <= b'z')
+    b.is_ascii_alphabetic()
 }
 
 pub fn is_digit(b: u8) -> bool
     ensures { result ≡ is_digit b }
 {
-    b'0' <= b && b <= b'9'
+    b.is_ascii_digit()
 }
 
-fn is_word(b: u8) -> bool
+// Whether the byte is a letter or a digit.
+pub fn is_word(b: u8) -> bool
     ensures { result ≡ is_word b }
 {
-    is_letter(b) || is_digit(b)
+    b.is_ascii_alphanumeric()
 }
 
 // Whether all bytes are letters or digits.
 fn all_word(bytes: &[u8]) -> bool
     ensures { result ≡ all is_word bytes.now }
 {
-    for b in bytes {
-        if !is_word(*b) {
-            return false;
-        }
-    }
-    true
+    bytes.iter().all(|b| is_word(*b))
 }
 
 // What may follow the first letter of a name.
 fn is_tail(rest: &[u8]) -> bool
     ensures { result ≡ (all is_word rest.now && nat_le (length rest.now) name_tail) }
 {
-    all_word(rest) && rest.len() <= 11
+    all_word(rest) && rest.len() <= NAME_TAIL
 }
 
-// Whether the field is a name: a letter, then up to 11 letters or digits.
+// Whether the field is a name: a letter, then up to `NAME_TAIL` letters or digits.
 pub fn is_name(field: &[u8]) -> bool
     ensures { result ≡ is_name field.now }
 {
-    let [first, rest @ ..] = field else {
-        return false;
-    };
-    if !is_letter(*first) {
-        return false;
+    match field {
+        [] => false,
+        [first, rest @ ..] => is_letter(*first) && is_tail(rest),
     }
-    is_tail(rest)
 }
 
 // The number that a few digits write; none where a byte is no digit.

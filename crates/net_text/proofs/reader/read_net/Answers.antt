@@ -1,72 +1,67 @@
-use Rattle.std.proofs.Common.{◌+◌, length, drop, Some, ap, ◌∙◌, arith}
+use Rattle.std.proofs.Common.{◌≡◌, ◌∷◌, length, Some, sym, ap, ◌∙◌, arith}
 use Rattle.std.proofs.lemmas.Result.{err_from_is_err_and}
-use Rattle.formats.specs.Words.{lines}
-use Rattle.formats.specs.Texts.{read_lines}
-use Rattle.formats.specs.NetText as said
-use Rattle.formats.specs.ReadNet.{net_reader}
+use Rattle.formats.specs.ReadNet.{net_reader, read_net}
 use Rattle.net_text.specs.declared.net.NetText.{NetText}
 use Rattle.net_text.specs.Nets.{net_of}
-use Rattle.texts.proofs.Standing.{line_ends}
+use Rattle.texts.specs.declared.at.At.{At}
+use Rattle.texts.specs.Walking.{numbered_lines, read_on, lines_left}
+use Rattle.texts.proofs.Walking.{first_at, some_line}
 use Rattle.texts.proofs.Whole.{text_refused, text_passed}
-use Rattle.net_text.proofs.Whole.{first_refused, first_passed, first_placed, nothing_read, end_refused, end_passed, accepts, refuses, lines_refused}
+use Rattle.net_text.proofs.Whole.{first_refused, first_said, end_refused, end_passed, accepts, refuses, lines_refused}
 use Rattle.net_text.proofs.reader.read_net.Goals as goal
+use Rattle.net_text.proofs.reader.read_net.Goals.{In-Some, After-read_lines}
 
 pub returns-in_err-check_text : goal.returns-in_err-check_text
 returns-in_err-check_text c =
     let p = err_from_is_err_and c.from_residual.result c.from_residual.ensures.1 in
     rw (p.1, p.2) (refuses c.args.text.now _ (text_refused net_reader c.args.text.now _ c.in_err-check_text.ensures))
 
+-- a text that passed has a line
+pub returns-in_default : goal.returns-in_default
+returns-in_default c =
+    let t = text_passed net_reader c.args.text.now c.in_ok-check_text.ensures in
+    absurd (some_line c.args.text.now t.0.0 t.0.2 (sym c.new-lines.ensures ∙ c.in_default.ensures.steps.0))
+
+-- the first line
+starts : (c : In-Some) → numbered_lines c.args.text.now ≡ (c.in-Some.at, c.in-Some.first.now) ∷ lines_left c.next.new.self
+starts c = sym c.new-lines.ensures ∙ c.in-Some.ensures.steps
+
+pub read_plant-requires : goal.read_plant-requires
+read_plant-requires c =
+    let at = ap (λ (a : At). a.byte) (first_at c.args.text.now c.in-Some.at c.in-Some.first.now (lines_left c.next.new.self) (starts (goal.at.read_plant-requires c).In-Some)) in
+    omega (arith, at)
+
 pub returns-in_err-kind : goal.returns-in_err-kind
 returns-in_err-kind c =
     let p = err_from_is_err_and c.from_residual-in_err-kind.result c.from_residual-in_err-kind.ensures.1 in
     let t = text_passed net_reader c.args.text.now c.in_ok-check_text.ensures in
-    let b = line_ends c.args.text.now 0 c.until-end.result t.0.2 t.0.0 c.until-end.ensures.value in
-    rw (p.1, p.2) (refuses c.args.text.now _ (t.1 ∙ first_refused c.args.text.now c.until-end.result c.until-end.ensures.value b.1 _ c.in_err-kind.ensures))
+    rw (p.1, p.2)
+    (refuses c.args.text.now _ (t.1 ∙ first_refused c.args.text.now t.0.2 c.in-Some.at c.in-Some.first.now (lines_left c.next.new.self) (starts (goal.at.returns-in_err-kind c).In-Some) _ c.in_err-kind.ensures))
 
-pub read_lines-requires : goal.read_lines-requires
-read_lines-requires c =
+-- the net of which only the kind is known
+abbrev begun : (c : After-read_lines) → NetText
+begun c = record { kind = c.in_ok-kind.kind; places = c.new.result; moves = c.new-2.result; arcs = c.new-3.result }
+
+-- the text comes to what its lines after the first come to
+comes : (c : After-read_lines) → read_net c.args.text.now ≡ read_on net_reader (Some (net_of c.args.text.now (begun c))) (length c.args.text.now) (lines_left c.next.new.self)
+comes c =
     let t = text_passed net_reader c.args.text.now c.in_ok-check_text.ensures in
-    let b = line_ends c.args.text.now 0 c.until-end.result t.0.2 t.0.0 c.until-end.ensures.value in
-    (omega (arith, b.1), omega arith, t.0.1, t.0.2)
+    t.1 ∙ first_said c.args.text.now t.0.2 c.in-Some.at c.in-Some.first.now (lines_left c.next.new.self) (sym c.new-lines.ensures ∙ c.in-Some.ensures.steps) (begun c) c.new.ensures.items c.new-2.ensures.items c.new-3.ensures.items c.in_ok-kind.ensures
 
--- the text comes to what its lines after the first come to, from a net of which only the kind is known
 pub returns-in_err-read_lines : goal.returns-in_err-read_lines
 returns-in_err-read_lines c =
     let p = err_from_is_err_and c.from_residual-in_err-read_lines.result c.from_residual-in_err-read_lines.ensures.1 in
-    let bs = c.args.text.now in
-    let n : NetText = record { kind = c.in_ok-kind.kind; places = c.new.result; moves = c.new-2.result; arcs = c.new-3.result } in
-    let t = text_passed net_reader bs c.in_ok-check_text.ensures in
-    let b = line_ends bs 0 c.until-end.result t.0.2 t.0.0 c.until-end.ensures.value in
-    let f = first_passed bs c.until-end.result c.until-end.ensures.value b.1 _ c.in_ok-kind.ensures in
-    let from = nothing_read bs n c.new.ensures.items c.new-2.ensures.items c.new-3.ensures.items in
-    rw (p.1, p.2)
-    (lines_refused bs _ (net_of bs n) 2 (c.until-end.result + 1)
-    (t.1 ∙ f ∙ ap (λ (x : said.NetText). read_lines net_reader (Some x) 2 (c.until-end.result + 1) (lines (drop (c.until-end.result + 1) bs))) from) _ c.in_err-read_lines.ensures.answer)
+    rw (p.1, p.2) (lines_refused c.args.text.now _ _ (comes (goal.at.returns-in_err-read_lines c).After-read_lines) _ c.in_err-read_lines.ensures.answer)
 
 pub returns-in_err-check_end : goal.returns-in_err-check_end
 returns-in_err-check_end c =
     let p = err_from_is_err_and c.from_residual-in_err-check_end.result c.from_residual-in_err-check_end.ensures.1 in
     let bs = c.args.text.now in
-    let n : NetText = record { kind = c.in_ok-kind.kind; places = c.new.result; moves = c.new-2.result; arcs = c.new-3.result } in
-    let t = text_passed net_reader bs c.in_ok-check_text.ensures in
-    let b = line_ends bs 0 c.until-end.result t.0.2 t.0.0 c.until-end.ensures.value in
-    let f = first_passed bs c.until-end.result c.until-end.ensures.value b.1 _ c.in_ok-kind.ensures in
-    let from = nothing_read bs n c.new.ensures.items c.new-2.ensures.items c.new-3.ensures.items in
     rw (p.1, p.2)
-    (refuses bs _
-    (t.1 ∙ f ∙ ap (λ (x : said.NetText). read_lines net_reader (Some x) 2 (c.until-end.result + 1) (lines (drop (c.until-end.result + 1) bs))) from
-    ∙ c.in_ok-read_lines.ensures.answer ∙ end_refused (net_of bs c.read_lines.new.net) (length bs) _ (c.in_err-check_end.ensures bs)))
+    (refuses bs _ (comes (goal.at.returns-in_err-check_end c).After-read_lines ∙ c.in_ok-read_lines.ensures.answer ∙ end_refused (net_of bs c.read_lines.new.net) (length bs) _ (c.in_err-check_end.ensures bs)))
 
 pub returns : goal.returns
 returns c =
     let bs = c.args.text.now in
-    let n : NetText = record { kind = c.in_ok-kind.kind; places = c.new.result; moves = c.new-2.result; arcs = c.new-3.result } in
-    let t = text_passed net_reader bs c.in_ok-check_text.ensures in
-    let b = line_ends bs 0 c.until-end.result t.0.2 t.0.0 c.until-end.ensures.value in
-    let f = first_passed bs c.until-end.result c.until-end.ensures.value b.1 _ c.in_ok-kind.ensures in
-    let from = nothing_read bs n c.new.ensures.items c.new-2.ensures.items c.new-3.ensures.items in
-    accepts bs _
-    (t.1 ∙ f ∙ ap (λ (x : said.NetText). read_lines net_reader (Some x) 2 (c.until-end.result + 1) (lines (drop (c.until-end.result + 1) bs))) from
-    ∙ c.in_ok-read_lines.ensures.answer ∙ end_passed (net_of bs c.read_lines.new.net) (length bs) (c.in_ok-check_end.ensures bs))
-    (c.in_ok-read_lines.ensures.located
-    (first_placed bs c.until-end.result c.until-end.ensures.value b.1 n c.new.ensures.items c.new-2.ensures.items c.new-3.ensures.items))
+    accepts bs _ (comes (goal.at.returns c).After-read_lines ∙ c.in_ok-read_lines.ensures.answer ∙ end_passed (net_of bs c.read_lines.new.net) (length bs) (c.in_ok-check_end.ensures bs))
+    c.in_ok-read_lines.ensures.located

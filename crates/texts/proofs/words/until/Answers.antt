@@ -1,26 +1,14 @@
-use Rattle.std.proofs.Common.{arith}
-use Rattle.std.proofs.lemmas.List.Sums.{prefix_len-drop_yes, prefix_len-drop_no, prefix_len-drop_all}
-use Rattle.std.proofs.lemmas.Bool.{eq-eqb, ne_eqb, not_from_true, not_from_false}
-use Rattle.formats.specs.Words.{is_not}
+use Rattle.std.proofs.Common.{rules, ◌+◌, length, drop, eqb, sym, ap, ◌∙◌}
+use Rattle.std.specs.Option.{unwrap_or}
+use Rattle.std.proofs.lemmas.Iterator.{IsFirst-from_position, YieldsList-from_slice}
+use Rattle.texts.proofs.Scanning.{Yes, No, first_is, rest_from}
+use borrow.Author.Tests.{tests}
 use Rattle.texts.proofs.words.until.Goals as goal
 
-pub bytes-preserved : goal.bytes-preserved
-bytes-preserved c = (
-  omega (arith, prefix_len-drop_yes (is_not c.args.b) c.args.text.now c.bytes.end 0 c.bytes-test.true (not_from_false _ (ne_eqb _ c.args.b c.if-text-end.true))),
-  omega arith,
-  λ h. omega arith,
-)
-
-pub returns-else-text-end : goal.returns-else-text-end
-returns-else-text-end c =
-    record {
-      value = omega (arith, prefix_len-drop_no (is_not c.args.b) c.args.text.now c.bytes.end 0 c.bytes-test.true (not_from_true _ (eq-eqb _ c.args.b c.if-text-end.false)));
-      within = c.bytes.invariant.2;
-    }
-
-pub returns-after-bytes : goal.returns-after-bytes
-returns-after-bytes c =
-    record {
-      value = omega (arith, prefix_len-drop_all (is_not c.args.b) c.args.text.now c.bytes.end (omega arith));
-      within = c.bytes.invariant.2;
-    }
+pub returns-clause-value : goal.returns-clause-value
+returns-clause-value c =
+    let b = c.args.b in
+    let rest = drop c.args.start c.args.text.now in
+    let from = rest_from c.args.text.now c.args.start c.min.result c.min.ensures in
+    let first = first_is b rest c.position.result (IsFirst-from_position _ _ _ (Yes (λ x. eqb x b)) (No (λ x. eqb x b)) c.position.ensures.ran (YieldsList-from_slice rest (c.iter.ensures.rest ∙ from)) (λ x q k. search (rules, tests)) (λ x q k. search (rules, tests))) in
+    ap (λ k. c.args.start + k) (c.unwrap_or.ensures ∙ ap (λ l. unwrap_or c.position.result (length l)) from ∙ sym first)
