@@ -1,6 +1,5 @@
 pub mod Names
 pub mod Shapes
-pub mod Answering
 pub mod Fitting
 pub mod Plants
 pub mod Started

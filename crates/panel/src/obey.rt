@@ -1,7 +1,6 @@
 // Orders on a ledger, each with the line that it prints.
-ghost use Rattle.std.specs.Prelude.{◌≡◌, ◌≤◌, ◌++◌, length, OnOk};
-ghost use Rattle.formats.specs.Words.{fields, last, lines};
-ghost use Rattle.model.specs.Sizes.{most_bytes};
+ghost use Rattle.std.specs.Prelude.{◌≡◌, ◌++◌, OnOk};
+ghost use Rattle.formats.specs.Words.{fields, lines};
 ghost use Rattle.ledger.specs.Ledgers.{ledger_of};
 ghost use Rattle.panel.specs.Orders.{order_of, answer_line, obeyed, next_ledger, answers};
 ghost use Rattle.panel.specs.Said.{cell_said};
@@ -14,7 +13,7 @@ use ledger::ledger::Ledger;
 use model::fault::Fault;
 use plant::plant::Plant;
 use std::alloc::AllocError;
-use texts::words::until;
+use texts::walk::Lines;
 
 // What is printed of a call's answer.
 fn put_answer(out: &mut Vec<u8>, said: &Said, answer: Result<(), Fault>) -> Result<(), AllocError>
@@ -61,14 +60,10 @@ pub(crate) fn obey_all<P: Plant>(
     ledger: &mut Ledger<Board<P>>,
     orders: &[u8],
 ) -> Result<(), AllocError>
-    requires { (length orders.now ≤ most_bytes) × (last orders.now ≡ 10) }
     ensures { OnOk result (out.new.items ≡ out.old.items ++ answers (cell_said said.now) (ledger_of (⟦<Board<P> as Plant>⟧.pile ledger.old.pile) ledger.old.grants) (lines orders.now)) }
 {
-    let mut start = 0;
-    'orders: while start < orders.len() {
-        let end = until(orders, start, b'\n');
-        obey(out, said, ledger, &orders[start..end])?;
-        start = end + 1;
+    for (_, line) in Lines::new(orders) {
+        obey(out, said, ledger, line)?;
     }
     Ok(())
 }

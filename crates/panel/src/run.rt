@@ -20,7 +20,6 @@ use crate::obey::obey_all;
 use crate::order::typed;
 use crate::print::put_bad;
 use crate::said::Said;
-use formats::fault::TextFault;
 use formats::kind::Kind;
 use layers::pile::build;
 use ledger::ledger::Ledger;
@@ -30,6 +29,7 @@ use net_text::reader::read_net;
 use plant::plant::Plant;
 use rules_text::reader::read_rules;
 use std::alloc::{AllocError, Global};
+use texts::at::At;
 use texts::lines::check_text;
 use texts::stop::ReadError;
 
@@ -47,12 +47,8 @@ fn put_stop(out: &mut Vec<u8>, which: &[u8], stop: ReadError) -> Result<(), Allo
 fn put_bad_fixed(out: &mut Vec<u8>, refusal: Refusal) -> Result<(), AllocError>
     ensures { OnOk result (out.new.items ≡ out.old.items ++ bad_line (codes "fixed") (fault refusal 1 0)) }
 {
-    let fault = TextFault {
-        refusal,
-        line: 1,
-        byte: 0,
-    };
-    put_bad(out, b"fixed", fault)
+    let start = At { line: 1, byte: 0 };
+    put_bad(out, b"fixed", start.fault(refusal, 0))
 }
 
 // The orders, which have passed the checks of the whole text, on a plant: with a monitor for the fixed rule, a board for the others,

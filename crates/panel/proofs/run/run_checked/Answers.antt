@@ -2,10 +2,8 @@ use Rattle.std.proofs.Common.{◌≡◌, ℕ, List, ◌++◌, vec_items, subst}
 use Rattle.std.specs.Prelude.{OnOk}
 use Rattle.layers.specs.Piles.{stack_pile}
 use Rattle.rules.specs.Rules.{rule_of}
-use Rattle.formats.specs.ReadNet.{net_reader}
 use Rattle.model.proofs.Checks.{err_not_ok}
 use Rattle.net_text.specs.Nets.{net_of}
-use Rattle.texts.proofs.Whole.{text_passed}
 use Rattle.panel.specs.Cells.{Cell}
 use Rattle.panel.specs.Said.{cell_said}
 use Rattle.panel.proofs.Started.{plant_bare, refused_set, built_cell, ran_unset, ran_set}
@@ -17,9 +15,6 @@ returns-in-Err-clause-printed g c =
     subst (λ (z : List ℕ). OnOk c.put_bad_fixed.result (vec_items c.put_bad_fixed.new.out ≡ vec_items c.args.out.now ++ z))
     (ran_unset x (g.P.Net.net c.args.plant) (g.P.Plant.tokens c.args.plant) (rule_of c.typed.result) c.requires.net c.requires.tokens c.typed.ensures c.args.orders.now c.requires.checked c.in-Err.fault c.in-Err.ensures.answer)
     c.put_bad_fixed.ensures
-
-pub obey_all-requires : goal.obey_all-requires
-obey_all-requires g c = let t = (text_passed net_reader c.args.orders.now c.requires.checked).0 in (t.1, t.2)
 
 pub returns-in-Ok-clause-printed : goal.returns-in-Ok-clause-printed
 returns-in-Ok-clause-printed g c =
