@@ -1,8 +1,7 @@
-pub mod Adding
 pub mod Names
 pub mod Shapes
-pub mod Answering
 pub mod Fitting
 pub mod Plants
 pub mod Started
+pub mod Making
 pub mod Same

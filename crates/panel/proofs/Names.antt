@@ -1,6 +1,7 @@
 -- A name looked up in two lists, one after the other.
-use Rattle.std.proofs.Common.{◌≡◌, ℕ, suc, ◌+◌, ◌<◌, ◌≤◌, Bool, true, false, cond, nat_lt, List, [], ◌∷◌, ◌++◌, length, Some, None, Option, get_or, slice_get, unwrap_or, codes, sym, refl, ap, ◌∙◌, arith, length-append}
+use Rattle.std.proofs.Common.{◌≡◌, ℕ, suc, ◌+◌, ◌<◌, ◌≤◌, Bool, true, false, cond, nat_lt, List, [], ◌∷◌, ◌++◌, length, Some, None, Option, get_or, slice_get, unwrap_or, Bor, sym, refl, ap, ◌∙◌, arith, length-append}
 use Rattle.std.proofs.lemmas.Option.{unwrap_or-slice_get}
+use Rattle.std.specs.Option.{option_map}
 use Rattle.std.specs.Str.{bytes_eq}
 use Rattle.std.proofs.lemmas.Bool.{cond-true, cond-false, lt-ltb, le-ltb, ltb-true, ltb-false}
 use Rattle.formats.specs.Words.{index_of}
@@ -71,6 +72,19 @@ module _ (n : List ℕ) where
   pub found_never : (x : List ℕ) (xs : List (List ℕ)) → bytes_eq x n ≡ false → None ≡ found xs n → None ≡ found (x ∷ xs) n
   found_never x xs e f = let i : index_of (x ∷ xs) n ≡ suc (index_of xs n) = cond-false _ _ _ e in missing_is (x ∷ xs) (omega (arith, missing_says xs f))
 
--- no name is there: `-` is printed
-pub name_missing : (ns : List (List ℕ)) (i : ℕ) → None ≡ slice_get ns i → codes "-" ≡ get_or ns i (codes "-")
-name_missing ns i e = ap (λ (o : Option (List ℕ)). unwrap_or o (codes "-")) e ∙ unwrap_or-slice_get ns i (codes "-")
+  -- in a list, then one name, then another list
+  pub found_last : (xs : List (List ℕ)) (x : List ℕ) (ys : List (List ℕ)) (first : ℕ) (o : Option ℕ) → None ≡ found xs n → bytes_eq x n ≡ false → first ≡ length xs → o ≡ found ys n
+      → option_map (λ r. first + 1 + r) o ≡ found (xs ++ (x ∷ ys)) n
+  found_last xs x ys first (Some r) before other f e =
+      let k : first + 1 + r ≡ length xs + (1 + r) = omega arith in
+      ap (λ (i : ℕ). Some i) k ∙ found_second xs (x ∷ ys) (1 + r) before (found_later x ys r other e)
+  found_last xs x ys first None before other f e = found_neither xs (x ∷ ys) before (found_never x ys other e)
+
+-- the bytes of a name, or of what is printed where there is none
+pub now_of : (o : Option (Bor (List ℕ))) (none : Bor (List ℕ)) → (unwrap_or o none).now ≡ unwrap_or (option_map (λ x. x.now) o) none.now
+now_of (Some x) none = refl
+now_of None none = refl
+
+-- a name in a list
+pub name_shown : (ns : List (List ℕ)) (i : ℕ) (o : Option (Bor (List ℕ))) (none : Bor (List ℕ)) → option_map (λ x. x.now) o ≡ slice_get ns i → (unwrap_or o none).now ≡ get_or ns i none.now
+name_shown ns i o none e = now_of o none ∙ ap (λ (p : Option (List ℕ)). unwrap_or p none.now) e ∙ unwrap_or-slice_get ns i none.now

@@ -12,7 +12,7 @@ use Rattle.rules_text.specs.declared.rule.RulesText.{RulesText}
 use Rattle.rules_text.specs.Rules.{LineSays, EachSays, RulesSay, no_rule}
 use Rattle.panel.specs.Cells as value
 use Rattle.panel.specs.Cells.{Cell, typed_of, plant_net, free_of, cell_of}
-use Rattle.panel.specs.Said.{line_rule, cell_said}
+use Rattle.panel.specs.Said.{line_rule, cell_read}
 
 module _ (bs : List ℕ) where
   rule_same : (l : RuleLine) (r : said.RuleLine) → LineSays bs l r → line_rule l ≡ typed_of r
@@ -38,7 +38,7 @@ module _ (bs : List ℕ) where
   each_same (l ∷ ls) (r ∷ rs) s zero = rule_same l r s.0
   each_same (l ∷ ls) (r ∷ rs) s (suc i) = each_same ls rs s.1 i
 
-pub cell_same : (nbs : List ℕ) (n : NetText) (bs : List ℕ) (r : RulesText) (y : said.RulesText) → RulesSay bs r y → cell_said nbs n bs r ≡ cell_of (net_of nbs n) y
+pub cell_same : (nbs : List ℕ) (n : NetText) (bs : List ℕ) (r : RulesText) (y : said.RulesText) → RulesSay bs r y → cell_read nbs n bs r ≡ cell_of (net_of nbs n) y
 cell_same nbs n bs r y s = λ i. record {
   places = sym (places_of nbs n) i;
   moves = sym (moves_of nbs n) i;

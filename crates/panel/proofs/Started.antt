@@ -79,6 +79,3 @@ on_ok (Err e) P p = tt
 
 pub only_one : {A E : Type 0} {a b : A} → ◌≡◌ {A = Result A E} (Ok a) (Ok b) → a ≡ b
 only_one e = cc
-
-pub not_both : {A E : Type 0} {a : A} {f : E} → ◌≡◌ {A = Result A E} (Err f) (Ok a) → ⊥
-not_both e = cc

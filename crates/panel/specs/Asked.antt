@@ -1,23 +1,21 @@
--- What the order that was read stands for.
---   verb_call        the call of a move that a word makes
---   order_said       the order
-use Rattle.std.specs.Prelude.{ℕ}
-use Rattle.model.specs.Ledger as model
+-- What is read of an order line.
+--   asked            the order that a read order stands for
+--   order_said       the order that a line is of which this is read: a read order, or the refusal of a line that is none; nothing where
+--                    no line is refused so
+use Rattle.std.specs.Prelude.{Some, None, Ok, Err, Option, Result}
+use Rattle.model.specs.declared.refusal.Refusal.{Refusal}
+use Rattle.model.specs.declared.refusal.Refusal.TheVariants.{NoRecord, NameUnknown}
 use Rattle.ledger.specs.Calls.{call_of}
-use Rattle.panel.specs.declared.order.Verb.{Verb}
-use Rattle.panel.specs.declared.order.Verb.TheVariants.{Grant, Commit, Cancel, Report}
 use Rattle.panel.specs.declared.order.Order.{Order}
-use Rattle.panel.specs.declared.order.Order.TheVariants.{Make, Show, NoShape, NoName}
+use Rattle.panel.specs.declared.order.Order.TheVariants.{Make, Show}
 use Rattle.panel.specs.Orders as said
 
-abbrev pub verb_call : Verb → ℕ → model.Call
-verb_call Grant t = model.grant t
-verb_call Commit t = model.commit t
-verb_call Cancel t = model.cancel t
-verb_call Report t = model.report t
+abbrev pub asked : Order → said.Order
+asked (Make k) = said.a_call (call_of k)
+asked (Show p) = said.a_show p
 
-abbrev pub order_said : Order → said.Order
-order_said (Make k) = said.a_call (call_of k)
-order_said (Show p) = said.a_show p
-order_said NoShape = said.no_shape
-order_said NoName = said.no_name
+abbrev pub order_said : Result Order Refusal → Option said.Order
+order_said (Ok o) = Some (asked o)
+order_said (Err NoRecord) = Some said.no_shape
+order_said (Err NameUnknown) = Some said.no_name
+order_said (Err _) = None

@@ -1,11 +1,12 @@
 // The run of a cell, from its three texts to what is printed.
-ghost use Rattle.std.specs.Prelude.{◌≡◌, ◌++◌, Ok, codes, IfOk, OnOk};
+ghost use Rattle.std.specs.Prelude.{◌≡◌, ◌++◌, Ok, codes, MatchOption, IfOk, OnOk};
 ghost use Rattle.texts.specs.Lines.{text_check};
 ghost use Rattle.formats.specs.NetText.{NetText as NetSaid};
 ghost use Rattle.formats.specs.NetText.{names, place_names};
 ghost use Rattle.formats.specs.RulesText.{RulesText as RulesSaid};
 ghost use Rattle.formats.specs.RulesText.{read_rules, rules_meaning};
 ghost use Rattle.formats.specs.NetClauses.{net_meaning};
+ghost use Rattle.formats.specs.declared.fault.TextFault.{TextFault};
 ghost use Rattle.formats.specs.Texts.{Proper, fault, written};
 ghost use Rattle.net_text.specs.Nets.{net_of};
 ghost use Rattle.panel.specs.Prints.{bad_line};
@@ -19,7 +20,6 @@ use crate::obey::obey_all;
 use crate::order::typed;
 use crate::print::put_bad;
 use crate::said::Said;
-use formats::fault::TextFault;
 use formats::kind::Kind;
 use layers::pile::build;
 use ledger::ledger::Ledger;
@@ -29,34 +29,41 @@ use net_text::reader::read_net;
 use plant::plant::Plant;
 use rules_text::reader::read_rules;
 use std::alloc::{AllocError, Global};
+use texts::at::At;
 use texts::lines::check_text;
 use texts::stop::ReadError;
+
+// What stops a reader: a text that is refused, or no memory.
+fn put_stop(out: &mut Vec<u8>, which: &[u8], stop: ReadError) -> Result<(), AllocError>
+    ensures { OnOk result ((fault : TextFault) × (stop ≡ ReadError.Refused fault) × (out.new.items ≡ out.old.items ++ bad_line which.now fault)) }
+{
+    match stop {
+        ReadError::Refused(fault) => put_bad(out, which, fault),
+        ReadError::NoMemory => Err(AllocError),
+    }
+}
 
 // `bad fixed NUMBER 1 0`: the fixed rule is refused.
 fn put_bad_fixed(out: &mut Vec<u8>, refusal: Refusal) -> Result<(), AllocError>
     ensures { OnOk result (out.new.items ≡ out.old.items ++ bad_line (codes "fixed") (fault refusal 1 0)) }
 {
-    let fault = TextFault {
-        refusal,
-        line: 1,
-        byte: 0,
-    };
-    put_bad(out, b"fixed", fault)
+    let start = At { line: 1, byte: 0 };
+    put_bad(out, b"fixed", start.fault(refusal, 0))
 }
 
 // The orders, which have passed the checks of the whole text, on a plant: with a monitor for the fixed rule, a board for the others,
 // and a ledger on top. The pile that the ledger is opened on is one that can be built.
 fn run_checked<P: Plant + Drop>(
     out: &mut Vec<u8>,
-    said: Said,
+    said: &Said,
     plant: P,
     orders: &[u8],
 ) -> Result<(), AllocError>
-    requires net { P.Net.net plant ≡ (cell_said said.net_text.now said.net.now said.rules_text.now said.rules.now).net }
-    requires tokens { P.Plant.tokens plant ≡ (cell_said said.net_text.now said.net.now said.rules_text.now said.rules.now).free }
+    requires net { P.Net.net plant ≡ (cell_said said.now).net }
+    requires tokens { P.Plant.tokens plant ≡ (cell_said said.now).free }
     requires checked { Ok tt ≡ text_check orders.now }
-    ensures printed { OnOk result (out.new.items ≡ out.old.items ++ ran (cell_said said.entry.net_text.now said.entry.net.now said.entry.rules_text.now said.entry.rules.now) orders.now) }
-    ensures built { Ok tt ≡ monitor_answer (start_monitor (cell_said said.entry.net_text.now said.entry.net.now said.entry.rules_text.now said.entry.rules.now)) (cell_said said.entry.net_text.now said.entry.net.now said.entry.rules_text.now said.entry.rules.now).typed_fixed → BuiltCell (cell_said said.entry.net_text.now said.entry.net.now said.entry.rules_text.now said.entry.rules.now) }
+    ensures printed { OnOk result (out.new.items ≡ out.old.items ++ ran (cell_said said.now) orders.now) }
+    ensures built { Ok tt ≡ monitor_answer (start_monitor (cell_said said.now)) (cell_said said.now).typed_fixed → BuiltCell (cell_said said.now) }
 {
     match build(plant, &typed(&said.rules.fixed)) {
         Ok(pile) => {
@@ -70,14 +77,14 @@ fn run_checked<P: Plant + Drop>(
 // The orders on a plant.
 fn run_plant<P: Plant + Drop>(
     out: &mut Vec<u8>,
-    said: Said,
+    said: &Said,
     plant: P,
     orders: &[u8],
 ) -> Result<(), AllocError>
-    requires net { P.Net.net plant ≡ (cell_said said.net_text.now said.net.now said.rules_text.now said.rules.now).net }
-    requires tokens { P.Plant.tokens plant ≡ (cell_said said.net_text.now said.net.now said.rules_text.now said.rules.now).free }
-    ensures printed { OnOk result (out.new.items ≡ out.old.items ++ ran (cell_said said.entry.net_text.now said.entry.net.now said.entry.rules_text.now said.entry.rules.now) orders.now) }
-    ensures built { Ok tt ≡ text_check orders.now → Ok tt ≡ monitor_answer (start_monitor (cell_said said.entry.net_text.now said.entry.net.now said.entry.rules_text.now said.entry.rules.now)) (cell_said said.entry.net_text.now said.entry.net.now said.entry.rules_text.now said.entry.rules.now).typed_fixed → BuiltCell (cell_said said.entry.net_text.now said.entry.net.now said.entry.rules_text.now said.entry.rules.now) }
+    requires net { P.Net.net plant ≡ (cell_said said.now).net }
+    requires tokens { P.Plant.tokens plant ≡ (cell_said said.now).free }
+    ensures printed { OnOk result (out.new.items ≡ out.old.items ++ ran (cell_said said.now) orders.now) }
+    ensures built { Started (cell_said said.now) orders.now }
 {
     match check_text(orders) {
         Ok(()) => run_checked(out, said, plant, orders),
@@ -85,25 +92,34 @@ fn run_plant<P: Plant + Drop>(
     }
 }
 
-// The orders on the plant that the net text tells of, by its kind.
-fn run_net(out: &mut Vec<u8>, said: Said, orders: &[u8]) -> Result<(), AllocError>
-    requires { Proper net_meaning (net_of said.net_text.now said.net.now) }
-    ensures printed { OnOk result (out.new.items ≡ out.old.items ++ ran (cell_said said.entry.net_text.now said.entry.net.now said.entry.rules_text.now said.entry.rules.now) orders.now) }
-    ensures built { Ok tt ≡ text_check orders.now → Ok tt ≡ monitor_answer (start_monitor (cell_said said.entry.net_text.now said.entry.net.now said.entry.rules_text.now said.entry.rules.now)) (cell_said said.entry.net_text.now said.entry.net.now said.entry.rules_text.now said.entry.rules.now).typed_fixed → BuiltCell (cell_said said.entry.net_text.now said.entry.net.now said.entry.rules_text.now said.entry.rules.now) }
+// The orders on a plant that was made.
+fn run_made<P: Plant + Drop>(
+    out: &mut Vec<u8>,
+    said: &Said,
+    made: Option<P>,
+    orders: &[u8],
+) -> Result<(), AllocError>
+    requires { MatchOption made ⊥ (λ plant. (P.Net.net plant ≡ (cell_said said.now).net) × (P.Plant.tokens plant ≡ (cell_said said.now).free)) }
+    ensures printed { OnOk result (out.new.items ≡ out.old.items ++ ran (cell_said said.now) orders.now) }
+    ensures built { Started (cell_said said.now) orders.now }
 {
-    match said.net.kind {
-        Kind::Net => match table::make::make(said.net) {
-            Some(plant) => run_plant(out, said, plant, orders),
-            None => unreachable(),
-        },
-        Kind::Bank => match bank::making::make(said.net) {
-            Some(plant) => run_plant(out, said, plant, orders),
-            None => unreachable(),
-        },
-        Kind::Line => match line::making::make(said.net) {
-            Some(plant) => run_plant(out, said, plant, orders),
-            None => unreachable(),
-        },
+    match made {
+        Some(plant) => run_plant(out, said, plant, orders),
+        None => unreachable!(),
+    }
+}
+
+// The orders on the plant that the net text tells of, by its kind.
+fn run_net(out: &mut Vec<u8>, said: &Said, orders: &[u8]) -> Result<(), AllocError>
+    requires { Proper net_meaning (net_of said.now.net_text.now said.now.net.now) }
+    ensures printed { OnOk result (out.new.items ≡ out.old.items ++ ran (cell_said said.now) orders.now) }
+    ensures built { Started (cell_said said.now) orders.now }
+{
+    let net = said.net;
+    match net.kind {
+        Kind::Net => run_made(out, said, table::make::make(net), orders),
+        Kind::Bank => run_made(out, said, bank::making::make(net), orders),
+        Kind::Line => run_made(out, said, line::making::make(net), orders),
     }
 }
 
@@ -128,10 +144,9 @@ fn run_rules(
                 rules: &rules,
                 rules_text,
             };
-            run_net(out, said, orders)
+            run_net(out, &said, orders)
         }
-        Err(ReadError::Refused(fault)) => put_bad(out, b"rules", fault),
-        Err(ReadError::NoMemory) => Err(AllocError),
+        Err(stop) => put_stop(out, b"rules", stop),
     }
 }
 
@@ -143,14 +158,8 @@ pub fn panel(alloc: Global, net: &[u8], rules: &[u8], orders: &[u8]) -> Result<V
 {
     let mut out = Vec::new(alloc);
     match read_net(alloc, net) {
-        Ok(read) => {
-            run_rules(alloc, &mut out, &read, net, rules, orders)?;
-            Ok(out)
-        }
-        Err(ReadError::Refused(fault)) => {
-            put_bad(&mut out, b"net", fault)?;
-            Ok(out)
-        }
-        Err(ReadError::NoMemory) => Err(AllocError),
+        Ok(read) => run_rules(alloc, &mut out, &read, net, rules, orders)?,
+        Err(stop) => put_stop(&mut out, b"net", stop)?,
     }
+    Ok(out)
 }

@@ -1,4 +1,4 @@
-// What the texts of a cell say, as they are read: names of moves, places and rules, both ways.
+// The texts of a cell as they were read, and the names in them.
 ghost use Rattle.std.specs.Prelude.{◌≡◌, length};
 ghost use Rattle.std.specs.Str.{bytes_eq};
 ghost use Rattle.texts.specs.Spans.{found};
@@ -24,74 +24,69 @@ pub struct Said<'a> {
 // What is printed where there is no name.
 pub(crate) const NO_NAME: &[u8] = b"-";
 
-// The move of that name.
-pub(crate) fn move_named(said: Said, name: &[u8]) -> Option<usize>
-    ensures { result ≡ found (cell_said said.entry.net_text.now said.entry.net.now said.entry.rules_text.now said.entry.rules.now).moves name.now }
-{
-    names::find_move(said.net, said.net_text, name)
-}
-
-// The rule line of that name.
-pub(crate) fn rule_named(said: Said, name: &[u8]) -> Option<usize>
-    ensures { result ≡ found (cell_said said.entry.net_text.now said.entry.net.now said.entry.rules_text.now said.entry.rules.now).rules name.now }
-{
-    find(&said.rules.others, said.rules_text, name)
-}
-
-// The ground place of that name.
-fn ground_named(said: Said, name: &[u8]) -> Option<usize>
-    ensures { result ≡ found (cell_said said.entry.net_text.now said.entry.net.now said.entry.rules_text.now said.entry.rules.now).places name.now }
-{
-    names::find_place(said.net, said.net_text, name)
-}
-
-// How many ground places there are.
-fn ground_count(said: Said) -> usize
-    ensures { result ≡ length (cell_said said.entry.net_text.now said.entry.net.now said.entry.rules_text.now said.entry.rules.now).places }
-{
-    said.net.places.len()
-}
-
-// Whether the fixed rule has that name.
-fn names_fixed(said: Said, name: &[u8]) -> bool
-    ensures { result ≡ bytes_eq (cell_said said.entry.net_text.now said.entry.net.now said.entry.rules_text.now said.entry.rules.now).fixed name.now }
-{
-    same(part(said.rules_text, said.rules.fixed.name), name)
-}
-
-// The place of the pile that has that name: a ground place, or the place of a rule.
-pub(crate) fn place_named(said: Said, name: &[u8]) -> Option<usize>
-    ensures { result ≡ found (pile_names (cell_said said.entry.net_text.now said.entry.net.now said.entry.rules_text.now said.entry.rules.now)) name.now }
-{
-    if let Some(p) = ground_named(said, name) {
-        return Some(p);
+impl<'a> Said<'a> {
+    // The move of that name.
+    pub(crate) fn move_named(&self, name: &[u8]) -> Option<usize>
+        ensures { result ≡ found (cell_said self.now).moves name.now }
+    {
+        names::find_move(self.net, self.net_text, name)
     }
-    let first = ground_count(said);
-    if names_fixed(said, name) {
-        return Some(first);
-    }
-    match rule_named(said, name) {
-        Some(r) => Some(first + 1 + r),
-        None => None,
-    }
-}
 
-// The name of a place of the pile: a part of the net text for a ground place, of the rules text for the place of a rule.
-pub(crate) fn place_name<'a>(said: Said<'a>, p: usize) -> &'a [u8]
-    ensures { result.now ≡ name_at (pile_names (cell_said said.entry.net_text.now said.entry.net.now said.entry.rules_text.now said.entry.rules.now)) p }
-{
-    match names::place_name(said.net, said.net_text, said.rules, said.rules_text, p) {
-        Some(name) => name,
-        None => NO_NAME,
+    // The rule line of that name.
+    pub(crate) fn rule_named(&self, name: &[u8]) -> Option<usize>
+        ensures { result ≡ found (cell_said self.now).rules name.now }
+    {
+        find(&self.rules.others, self.rules_text, name)
     }
-}
 
-// The name of a move.
-pub(crate) fn move_name<'a>(said: Said<'a>, t: usize) -> &'a [u8]
-    ensures { result.now ≡ name_at (cell_said said.entry.net_text.now said.entry.net.now said.entry.rules_text.now said.entry.rules.now).moves t }
-{
-    match names::move_name(said.net, said.net_text, t) {
-        Some(name) => name,
-        None => NO_NAME,
+    // The ground place of that name.
+    fn ground_named(&self, name: &[u8]) -> Option<usize>
+        ensures { result ≡ found (cell_said self.now).places name.now }
+    {
+        names::find_place(self.net, self.net_text, name)
+    }
+
+    // How many ground places there are.
+    fn ground_count(&self) -> usize
+        ensures { result ≡ length (cell_said self.now).places }
+    {
+        self.net.places.len()
+    }
+
+    // Whether the fixed rule has that name.
+    fn names_fixed(&self, name: &[u8]) -> bool
+        ensures { result ≡ bytes_eq (cell_said self.now).fixed name.now }
+    {
+        same(part(self.rules_text, self.rules.fixed.name), name)
+    }
+
+    // The place of the pile that has that name: a ground place, or the place of a rule.
+    pub(crate) fn place_named(&self, name: &[u8]) -> Option<usize>
+        ensures { result ≡ found (pile_names (cell_said self.now)) name.now }
+    {
+        if let Some(p) = self.ground_named(name) {
+            return Some(p);
+        }
+        let first = self.ground_count();
+        if self.names_fixed(name) {
+            return Some(first);
+        }
+        self.rule_named(name).map(|r| first + 1 + r)
+    }
+
+    // The name of a place of the pile: a part of the net text for a ground place, of the rules text for the place of a rule.
+    pub(crate) fn place_name(&self, p: usize) -> &'a [u8]
+        ensures { result.now ≡ name_at (pile_names (cell_said self.now)) p }
+    {
+        names::place_name(self.net, self.net_text, self.rules, self.rules_text, p).unwrap_or(
+            NO_NAME,
+        )
+    }
+
+    // The name of a move.
+    pub(crate) fn move_name(&self, t: usize) -> &'a [u8]
+        ensures { result.now ≡ name_at (cell_said self.now).moves t }
+    {
+        names::move_name(self.net, self.net_text, t).unwrap_or(NO_NAME)
     }
 }

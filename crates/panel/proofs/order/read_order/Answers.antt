@@ -2,5 +2,5 @@ use Rattle.std.proofs.Common.{rules}
 use Rattle.panel.proofs.Shapes.{three_fields}
 use Rattle.panel.proofs.order.read_order.Goals as goal
 
-pub returns-in-Some-more : goal.returns-in-Some-more
-returns-in-Some-more c = search (rules, three_fields)
+pub returns-in-Some : goal.returns-in-Some
+returns-in-Some c = search (rules, three_fields)

@@ -1,4 +1,4 @@
-use Rattle.std.proofs.Common.{◌≡◌, ℕ, List, ◌++◌, Result, Ok, sym, ap, ◌∙◌, subst}
+use Rattle.std.proofs.Common.{◌≡◌, ℕ, List, ◌++◌, Result, Ok, vec_items, sym, ap, ◌∙◌, subst}
 use Rattle.formats.specs.declared.fault.TextFault.{TextFault}
 use Rattle.formats.specs.NetText.{NetText, names, place_names}
 use Rattle.formats.specs.RulesText.{RulesText, read_rules}
@@ -8,28 +8,37 @@ use Rattle.net_text.specs.Nets.{net_of}
 use Rattle.panel.specs.Cells.{cell_of}
 use Rattle.panel.specs.Orders.{Started}
 use Rattle.panel.specs.Run.{by_rules, by_net}
-use Rattle.panel.proofs.Started.{only_one, not_both}
+use Rattle.panel.proofs.Started.{only_one}
 use Rattle.panel.proofs.run.panel.Goals as goal
+use Rattle.panel.proofs.run.panel.Goals.{in-Ok+in_ok-run_rules-in-Ok, in-Err+in_ok-put_stop-in-Err}
 
-pub returns-in_ok-run_rules-in-Ok-clause-proper : goal.returns-in_ok-run_rules-in-Ok-clause-proper
-returns-in_ok-run_rules-in-Ok-clause-proper c = λ x y p w q v.
-    let read : NetText = net_of c.args.net.now c.in-Ok.read in
-    let by = λ (r : Result NetText TextFault). by_net r c.args.rules.now c.args.orders.now in
-    c.in_ok-run_rules-in-Ok.ensures.printed
-    ∙ ap (λ (o : List ℕ). o ++ by_rules read (read_rules (names read) (place_names read) c.args.rules.now) c.args.orders.now) c.new-out.ensures.items
-    ∙ sym (ap by c.in-Ok.ensures.answer)
-    ∙ ap by ((net_exact c.args.net.now x).1 p w)
-    ∙ ap (λ (r : Result RulesText TextFault). by_rules x r c.args.orders.now) ((rules_exact x p.right c.args.rules.now y).1 q v)
+pub returns-clause-proper : goal.returns-clause-proper
+returns-clause-proper c = λ x y p w q v.
+    elim c.match-read_net.branch [
+      | in-Ok+in_ok-run_rules-in-Ok k ↦
+          let read : NetText = net_of c.args.net.now k.in-Ok.read in
+          let by = λ (r : Result NetText TextFault). by_net r c.args.rules.now c.args.orders.now in
+          ap vec_items k.out-is
+          ∙ k.in_ok-run_rules-in-Ok.ensures.printed
+          ∙ ap (λ (o : List ℕ). o ++ by_rules read (read_rules (names read) (place_names read) c.args.rules.now) c.args.orders.now) c.new-out.ensures.items
+          ∙ sym (ap by k.in-Ok.ensures.answer)
+          ∙ ap by ((net_exact c.args.net.now x).1 p w)
+          ∙ ap (λ (r : Result RulesText TextFault). by_rules x r c.args.orders.now) ((rules_exact x p.right c.args.rules.now y).1 q v)
+      | in-Err+in_ok-put_stop-in-Err k ↦
+          let not_written = rw k.in_ok-put_stop-in-Err.ensures.1 at k.in-Err.ensures.accepted in
+          absurd (not_written x p w)
+    ]
 
-pub returns-in_ok-run_rules-in-Ok-clause-built : goal.returns-in_ok-run_rules-in-Ok-clause-built
-returns-in_ok-run_rules-in-Ok-clause-built c = λ x y p w q v.
-    let read : NetText = net_of c.args.net.now c.in-Ok.read in
-    let same : read ≡ x = only_one (sym c.in-Ok.ensures.answer ∙ (net_exact c.args.net.now x).1 p w) in
-    subst (λ (n : NetText). read_rules (names n) (place_names n) c.args.rules.now ≡ Ok y → Started (cell_of n y) c.args.orders.now) same
-    (c.in_ok-run_rules-in-Ok.ensures.built y)
-    ((rules_exact x p.right c.args.rules.now y).1 q v)
-
-pub returns-in_ok-put_bad-in-Err-Refused-clause-built : goal.returns-in_ok-put_bad-in-Err-Refused-clause-built
-returns-in_ok-put_bad-in-Err-Refused-clause-built c = λ x y p w q v.
-    let refused = rw c.in-Err-Refused.field-0-is at c.in-Err-Refused.ensures.answer in
-    absurd (not_both (sym refused ∙ (net_exact c.args.net.now x).1 p w))
+pub returns-clause-built : goal.returns-clause-built
+returns-clause-built c = λ x y p w q v.
+    elim c.match-read_net.branch [
+      | in-Ok+in_ok-run_rules-in-Ok k ↦
+          let read : NetText = net_of c.args.net.now k.in-Ok.read in
+          let same : read ≡ x = only_one (sym k.in-Ok.ensures.answer ∙ (net_exact c.args.net.now x).1 p w) in
+          subst (λ (n : NetText). read_rules (names n) (place_names n) c.args.rules.now ≡ Ok y → Started (cell_of n y) c.args.orders.now) same
+          (k.in_ok-run_rules-in-Ok.ensures.built y)
+          ((rules_exact x p.right c.args.rules.now y).1 q v)
+      | in-Err+in_ok-put_stop-in-Err k ↦
+          let not_written = rw k.in_ok-put_stop-in-Err.ensures.1 at k.in-Err.ensures.accepted in
+          absurd (not_written x p w)
+    ]

@@ -2,10 +2,8 @@ use Rattle.std.proofs.Common.{◌≡◌, ℕ, List, ◌++◌, vec_items, subst}
 use Rattle.std.specs.Prelude.{OnOk}
 use Rattle.layers.specs.Piles.{stack_pile}
 use Rattle.rules.specs.Rules.{rule_of}
-use Rattle.formats.specs.ReadNet.{net_reader}
 use Rattle.model.proofs.Checks.{err_not_ok}
 use Rattle.net_text.specs.Nets.{net_of}
-use Rattle.texts.proofs.Whole.{text_passed}
 use Rattle.panel.specs.Cells.{Cell}
 use Rattle.panel.specs.Said.{cell_said}
 use Rattle.panel.proofs.Started.{plant_bare, refused_set, built_cell, ran_unset, ran_set}
@@ -13,17 +11,14 @@ use Rattle.panel.proofs.run.run_checked.Goals as goal
 
 pub returns-in-Err-clause-printed : goal.returns-in-Err-clause-printed
 returns-in-Err-clause-printed g c =
-    let x : Cell = cell_said c.args.said.net_text.now c.args.said.net.now c.args.said.rules_text.now c.args.said.rules.now in
+    let x : Cell = cell_said c.args.said.now in
     subst (λ (z : List ℕ). OnOk c.put_bad_fixed.result (vec_items c.put_bad_fixed.new.out ≡ vec_items c.args.out.now ++ z))
     (ran_unset x (g.P.Net.net c.args.plant) (g.P.Plant.tokens c.args.plant) (rule_of c.typed.result) c.requires.net c.requires.tokens c.typed.ensures c.args.orders.now c.requires.checked c.in-Err.fault c.in-Err.ensures.answer)
     c.put_bad_fixed.ensures
 
-pub obey_all-requires : goal.obey_all-requires
-obey_all-requires g c = let t = (text_passed net_reader c.args.orders.now c.requires.checked).0 in (t.1, t.2)
-
 pub returns-in-Ok-clause-printed : goal.returns-in-Ok-clause-printed
 returns-in-Ok-clause-printed g c =
-    let x : Cell = cell_said c.args.said.net_text.now c.args.said.net.now c.args.said.rules_text.now c.args.said.rules.now in
+    let x : Cell = cell_said c.args.said.now in
     subst (λ (z : List ℕ). OnOk c.obey_all.result (vec_items c.obey_all.new.out ≡ vec_items c.args.out.now ++ z))
     (ran_set x (g.P.Net.net c.args.plant) (g.P.Plant.tokens c.args.plant) (rule_of c.typed.result) c.requires.net c.requires.tokens c.typed.ensures c.args.orders.now c.requires.checked c.in-Ok.ensures.answer
     (stack_pile g.P.Net.net g.P.Plant.tokens c.in-Ok.pile) _ c.new-ledger.ensures.new c.in-Ok.ensures.pile)
@@ -31,11 +26,11 @@ returns-in-Ok-clause-printed g c =
 
 pub returns-in-Err-clause-built : goal.returns-in-Err-clause-built
 returns-in-Err-clause-built g c = λ set.
-    let x : Cell = cell_said c.args.said.net_text.now c.args.said.net.now c.args.said.rules_text.now c.args.said.rules.now in
+    let x : Cell = cell_said c.args.said.now in
     absurd (err_not_ok c.in-Err.fault (refused_set x (g.P.Net.net c.args.plant) (g.P.Plant.tokens c.args.plant) (rule_of c.typed.result) c.requires.net c.requires.tokens c.typed.ensures c.in-Err.fault c.in-Err.ensures.answer set))
 
 pub returns-in-Ok-clause-built : goal.returns-in-Ok-clause-built
 returns-in-Ok-clause-built g c = λ set.
-    let x : Cell = cell_said c.args.said.net_text.now c.args.said.net.now c.args.said.rules_text.now c.args.said.rules.now in
+    let x : Cell = cell_said c.args.said.now in
     built_cell x (g.P.Net.net c.args.plant) (g.P.Plant.tokens c.args.plant) (rule_of c.typed.result) c.requires.net c.requires.tokens c.typed.ensures
-    (stack_pile g.P.Net.net g.P.Plant.tokens c.in-Ok.pile) c.in-Ok.ensures.pile (plant_bare (net_of c.args.said.net_text.now c.args.said.net.now))
+    (stack_pile g.P.Net.net g.P.Plant.tokens c.in-Ok.pile) c.in-Ok.ensures.pile (plant_bare (net_of c.args.said.now.net_text.now c.args.said.now.net.now))

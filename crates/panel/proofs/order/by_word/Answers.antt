@@ -1,0 +1,30 @@
+use Rattle.std.proofs.Common.{codes, arith, rules}
+use Rattle.std.proofs.lemmas.Slice.Eq.{text_from_reads}
+use Rattle.panel.proofs.order.by_word.Goals as goal
+
+pub returns-in_ok-move_asked-in-grant : goal.returns-in_ok-move_asked-in-grant
+returns-in_ok-move_asked-in-grant c = rw (text_from_reads c.args.word.now (codes "grant") (omega arith) (search rules)) (search rules)
+
+pub returns-in_ok-move_asked-in-commit : goal.returns-in_ok-move_asked-in-commit
+returns-in_ok-move_asked-in-commit c = rw (text_from_reads c.args.word.now (codes "commit") (omega arith) (search rules)) (search rules)
+
+pub returns-in_err-move_asked-in-commit : goal.returns-in_err-move_asked-in-commit
+returns-in_err-move_asked-in-commit c = rw (text_from_reads c.args.word.now (codes "commit") (omega arith) (search rules)) (search rules)
+
+pub returns-in_ok-move_asked-in-cancel : goal.returns-in_ok-move_asked-in-cancel
+returns-in_ok-move_asked-in-cancel c = rw (text_from_reads c.args.word.now (codes "cancel") (omega arith) (search rules)) (search rules)
+
+pub returns-in_err-move_asked-in-cancel : goal.returns-in_err-move_asked-in-cancel
+returns-in_err-move_asked-in-cancel c = rw (text_from_reads c.args.word.now (codes "cancel") (omega arith) (search rules)) (search rules)
+
+pub returns-in_ok-move_asked-in-report : goal.returns-in_ok-move_asked-in-report
+returns-in_ok-move_asked-in-report c = rw (text_from_reads c.args.word.now (codes "report") (omega arith) (search rules)) (search rules)
+
+pub returns-in_err-move_asked-in-report : goal.returns-in_err-move_asked-in-report
+returns-in_err-move_asked-in-report c = rw (text_from_reads c.args.word.now (codes "report") (omega arith) (search rules)) (search rules)
+
+pub returns-in-admit : goal.returns-in-admit
+returns-in-admit c = rw (text_from_reads c.args.word.now (codes "admit") (omega arith) (search rules)) (search rules)
+
+pub returns-in-show : goal.returns-in-show
+returns-in-show c = rw (text_from_reads c.args.word.now (codes "show") (omega arith) (search rules)) (search rules)
