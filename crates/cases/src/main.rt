@@ -10,61 +10,37 @@ mod notation;
 
 use notation::{decode, encode};
 use panel::run::panel;
-use std::alloc::{AllocError, Global};
+use std::alloc::Global;
 use std::io::Write;
-use std::{fs, io};
-
-// The part of a line before the first bar, and what follows the bar.
-fn split_bar(line: &[u8]) -> (&[u8], &[u8]) {
-    for (i, b) in line.iter().enumerate() {
-        if *b == b'|' {
-            return (&line[0..i], &line[i + 1..]);
-        }
-    }
-    (line, &line[line.len()..])
-}
+use std::{array, fs, io};
 
 // A field without the one blank at either end that sets it off from the bars.
-fn trimmed(field: &[u8]) -> &[u8] {
-    let field = match field {
-        [b' ', rest @ ..] => rest,
-        _ => field,
-    };
-    match field {
-        [rest @ .., b' '] => rest,
-        _ => field,
-    }
+fn trimmed(field: &str) -> &str {
+    let field = field.strip_prefix(' ').unwrap_or(field);
+    field.strip_suffix(' ').unwrap_or(field)
 }
 
-// One case: its title, and what the panel prints for it.
-fn run_case(heap: Global, line: &[u8]) -> Result<Vec<u8>, AllocError> {
-    let (title, rest) = split_bar(line);
-    let (net, rest) = split_bar(rest);
-    let (rules, orders) = split_bar(rest);
+// Adds what is printed for one case: its title, and what the panel prints for it.
+fn run_case(heap: Global, line: &str, out: &mut Vec<u8>) -> io::Result<()> {
+    let mut fields = line.splitn(4, '|');
+    let [title, net, rules, orders]: [&str; 4] = array::from_fn(|_| fields
+        .next()
+        .unwrap_or_default());
     let net = decode(heap, trimmed(net))?;
     let rules = decode(heap, trimmed(rules))?;
     let orders = decode(heap, trimmed(orders))?;
     let printed = panel(heap, &net, &rules, &orders)?;
-    let mut out = Vec::new(heap);
-    out.extend_from_slice(title)?;
-    out.extend_from_slice(b"| ")?;
-    encode(&mut out, &printed)?;
-    out.push(b'\n')?;
-    Ok(out)
+    write!(out, "{title}| ")?;
+    encode(out, &printed)?;
+    writeln!(out)
 }
 
 fn run(rt: &HostRuntime) -> io::Result<()> {
-    let table = fs::read(rt, "cases.txt")?;
-    let mut start = 0;
+    let table = fs::read_to_string(rt, "cases.txt")?;
     let mut out = Vec::new(rt.alloc());
-    for (i, b) in table.as_slice().iter().enumerate() {
-        if *b == b'\n' && start <= i {
-            let line = &table.as_slice()[start..i];
-            if !line.is_empty() && !line.starts_with(b"#") {
-                let result = run_case(rt.alloc(), line)?;
-                out.extend_from_slice(&result)?;
-            }
-            start = i + 1;
+    for line in table.lines() {
+        if !line.is_empty() && !line.starts_with('#') {
+            run_case(rt.alloc(), line, &mut out)?;
         }
     }
     rt.stdout().write_all(&out)

@@ -1,112 +1,59 @@
 // The notation of the table of cases.
 use std::alloc::{AllocError, Global};
+use std::io;
 
-// What the decoder is in the middle of.
-#[derive(Clone, Copy)]
-enum State {
-    Plain,
-    // after a backslash; after its first digit
-    Escape,
-    EscapeLow(u8),
-    // after an opening brace: the count so far
-    Count(usize),
-    // after the star: the count, and where the repeated text begins in the output
-    Body(usize, usize),
-    BodyEscape(usize, usize),
-    BodyEscapeLow(usize, usize, u8),
+fn malformed() -> io::Error {
+    io::Error::other("a field of the table is written wrong")
 }
 
-fn hex(b: u8) -> u8 {
-    match b {
-        b'0'..=b'9' => b - b'0',
-        b'a'..=b'f' => b - b'a' + 10,
-        _ => 0,
-    }
-}
-
-// The byte that a plain character of the notation stands for.
-fn plain(b: u8) -> u8 {
-    match b {
-        b' ' => b'\t',
-        b',' => b'\n',
-        _ => b,
-    }
-}
-
-fn joined(high: u8, low: u8) -> u8 {
-    ((high & 15) << 4) | (low & 15)
-}
-
-// Adds the text from `start` on, which is there once, so often that it is there `count` times.
-fn repeat(out: &mut Vec<u8>, heap: Global, start: usize, count: usize) -> Result<(), AllocError> {
-    let mut once = Vec::new(heap);
-    for b in out.as_slice().iter().skip(start) {
-        once.push(*b)?;
-    }
-    out.truncate(start);
-    for _ in 0..count {
-        out.extend_from_slice(&once)?;
+// Adds the bytes that text without braces stands for.
+fn push_text(out: &mut Vec<u8>, text: &str) -> io::Result<()> {
+    // Each piece but the first begins with the two digits after a backslash.
+    let mut pieces = text.split('\\');
+    push_plain(out, pieces.next().unwrap_or_default())?;
+    for piece in pieces {
+        let (digits, plain) = piece.split_at_checked(2).ok_or_else(malformed)?;
+        out.push(u8::from_str_radix(digits, 16).map_err(|_| malformed())?)?;
+        push_plain(out, plain)?;
     }
     Ok(())
 }
 
-// One character more: the state after it.
-fn step(out: &mut Vec<u8>, heap: Global, state: State, b: u8) -> Result<State, AllocError> {
-    match state {
-        State::Plain => match b {
-            b'\\' => Ok(State::Escape),
-            b'{' => Ok(State::Count(0)),
-            _ => {
-                out.push(plain(b))?;
-                Ok(State::Plain)
-            }
-        },
-        State::Escape => Ok(State::EscapeLow(hex(b))),
-        State::EscapeLow(high) => {
-            out.push(joined(high, hex(b)))?;
-            Ok(State::Plain)
-        }
-        State::Count(n) => match b {
-            b'*' => Ok(State::Body(n, out.len())),
-            _ => Ok(State::Count(n.saturating_mul(10).saturating_add(usize::from(hex(b))))),
-        },
-        State::Body(n, start) => match b {
-            b'\\' => Ok(State::BodyEscape(n, start)),
-            b'}' => {
-                repeat(out, heap, start, n)?;
-                Ok(State::Plain)
-            }
-            _ => {
-                out.push(plain(b))?;
-                Ok(State::Body(n, start))
-            }
-        },
-        State::BodyEscape(n, start) => Ok(State::BodyEscapeLow(n, start, hex(b))),
-        State::BodyEscapeLow(n, start, high) => {
-            out.push(joined(high, hex(b)))?;
-            Ok(State::Body(n, start))
-        }
-    }
+// Adds the bytes that text with neither braces nor backslashes stands for.
+fn push_plain(out: &mut Vec<u8>, text: &str) -> Result<(), AllocError> {
+    out.extend(
+        text.bytes().map(|b| match b {
+            b' ' => b'\t',
+            b',' => b'\n',
+            _ => b,
+        }),
+    )
 }
 
 // The bytes that a field of the table stands for.
-pub fn decode(heap: Global, field: &[u8]) -> Result<Vec<u8>, AllocError> {
+pub fn decode(heap: Global, field: &str) -> io::Result<Vec<u8>> {
     let mut out = Vec::new(heap);
-    let mut state = State::Plain;
-    for b in field {
-        state = step(&mut out, heap, state, *b)?;
+    // Each piece but the first begins with a count, a star, the text that is there so often, and the closing brace.
+    let mut pieces = field.split('{');
+    push_text(&mut out, pieces.next().unwrap_or_default())?;
+    for piece in pieces {
+        let (repeated, after) = piece.split_once('}').ok_or_else(malformed)?;
+        let (count, once) = repeated.split_once('*').ok_or_else(malformed)?;
+        for _ in 0..count.parse::<usize>().map_err(|_| malformed())? {
+            push_text(&mut out, once)?;
+        }
+        push_text(&mut out, after)?;
     }
     Ok(out)
 }
 
-// What is printed, with a blank for a tab and a comma for a newline.
+// Adds what is printed, with a blank for a tab and a comma for a newline.
 pub fn encode(out: &mut Vec<u8>, printed: &[u8]) -> Result<(), AllocError> {
-    for b in printed {
-        match *b {
-            b'\t' => out.push(b' ')?,
-            b'\n' => out.push(b',')?,
-            _ => out.push(*b)?,
-        }
-    }
-    Ok(())
+    out.extend(
+        printed.iter().map(|b| match *b {
+            b'\t' => b' ',
+            b'\n' => b',',
+            b => b,
+        }),
+    )
 }

@@ -7,9 +7,10 @@ use model::fault::Fault;
 use net_text::reader::read_net;
 use plant::net::Net;
 use plant::plant::Plant;
-use std::{fs, io};
+use std::{fmt, fs, io};
 
-// Calls of a plant, each with its move.
+// A call of a plant, with its move.
+// Kept: drills has the same enum; a crate for it would ask for a contract, its words and an edit, which are more lines than the enum.
 #[derive(Clone, Copy)]
 enum Call {
     Begin(usize),
@@ -19,48 +20,68 @@ enum Call {
 
 use Call::{Back, Begin, Finish};
 
-fn make_call<P: Plant>(plant: &mut P, call: Call) -> Result<(), Fault> {
-    match call {
-        Call::Begin(t) => plant.begin(t),
-        Call::Finish(t) => plant.finish(t),
-        Call::Back(t) => plant.back(t),
-    }
-}
-
-fn print_call(rt: &HostRuntime, call: Call) -> io::Result<()> {
-    match call {
-        Call::Begin(t) => print!(rt; "begin {t}: "),
-        Call::Finish(t) => print!(rt; "finish {t}: "),
-        Call::Back(t) => print!(rt; "back {t}: "),
-    }
-}
-
-fn print_answer(rt: &HostRuntime, answer: Result<(), Fault>) -> io::Result<()> {
-    match answer {
-        Ok(()) => print!(rt; "passed;"),
-        Err(fault) => {
-            let number = fault.refusal.number();
-            match fault.spot {
-                Some(spot) => print!(rt; "{number} at place {};", spot.place),
-                None => print!(rt; "{number};"),
-            }
+impl Call {
+    fn make<P: Plant>(self, plant: &mut P) -> Result<(), Fault> {
+        match self {
+            Begin(t) => plant.begin(t),
+            Finish(t) => plant.finish(t),
+            Back(t) => plant.back(t),
         }
     }
 }
 
-fn print_tokens<P: Plant>(rt: &HostRuntime, plant: &P) -> io::Result<()> {
-    for p in 0..plant.places() {
-        print!(rt; " {}", plant.free(p))?;
+impl fmt::Display for Call {
+    fn fmt<W: fmt::Write>(&self, f: &mut fmt::Formatter<W>) -> fmt::Result {
+        match self {
+            Begin(t) => write!(f, "begin {t}"),
+            Finish(t) => write!(f, "finish {t}"),
+            Back(t) => write!(f, "back {t}"),
+        }
     }
-    println!(rt; "")
 }
 
-fn run_calls<P: Plant>(rt: &HostRuntime, plant: &mut P, calls: &[Call]) -> io::Result<()> {
+// An answer: a refusal by its number, with its place.
+#[derive(Drop)]
+struct Told(Result<(), Fault>);
+
+impl fmt::Display for Told {
+    fn fmt<W: fmt::Write>(&self, f: &mut fmt::Formatter<W>) -> fmt::Result {
+        let Err(fault) = self.0 else {
+            return f.write_str("passed");
+        };
+        write!(f, "{}", fault.refusal.number())?;
+        match fault.spot {
+            Some(spot) => write!(f, " at place {}", spot.place),
+            None => Ok(()),
+        }
+    }
+}
+
+// The tokens at every place.
+#[derive(Drop)]
+struct Tokens<'a, P>(&'a P);
+
+impl<P: Plant> fmt::Display for Tokens<'_, P> {
+    fn fmt<W: fmt::Write>(&self, f: &mut fmt::Formatter<W>) -> fmt::Result {
+        for p in 0..self.0.places() {
+            write!(f, " {}", self.0.free(p))?;
+        }
+        Ok(())
+    }
+}
+
+// Runs the calls on a plant, if it was made.
+fn run_calls<P: Plant + Drop>(
+    rt: &HostRuntime,
+    plant: Option<P>,
+    calls: &[Call],
+) -> io::Result<()> {
+    let Some(mut plant) = plant else {
+        return println!(rt; "not made");
+    };
     for call in calls {
-        print_call(rt, *call)?;
-        let answer = make_call(plant, *call);
-        print_answer(rt, answer)?;
-        print_tokens(rt, plant)?;
+        let answer = call.make(&mut plant);
+        println!(rt; "{call}: {};{}", Told(answer), Tokens(&plant))?;
     }
     Ok(())
 }
@@ -73,18 +94,9 @@ fn run_net(rt: &HostRuntime, path: &str, calls: &[Call]) -> io::Result<()> {
         return println!(rt; "not read");
     };
     match net.kind {
-        Kind::Net => match table::make::make(&net) {
-            Some(mut plant) => run_calls(rt, &mut plant, calls),
-            None => println!(rt; "not made"),
-        },
-        Kind::Bank => match bank::making::make(&net) {
-            Some(mut plant) => run_calls(rt, &mut plant, calls),
-            None => println!(rt; "not made"),
-        },
-        Kind::Line => match line::making::make(&net) {
-            Some(mut plant) => run_calls(rt, &mut plant, calls),
-            None => println!(rt; "not made"),
-        },
+        Kind::Net => run_calls(rt, table::make::make(&net), calls),
+        Kind::Bank => run_calls(rt, bank::making::make(&net), calls),
+        Kind::Line => run_calls(rt, line::making::make(&net), calls),
     }
 }
 
