@@ -5,7 +5,7 @@ use Rattle.formats.specs.RulesText as said
 use Rattle.formats.specs.RulesText.{RuleShape, rule_shape, checks_of, after_rule, rules_reader}
 use Rattle.formats.specs.RulesText.RuleShape.{neither}
 use Rattle.texts.specs.Lines.{rule_shape_of}
-use Rattle.texts.specs.Walking.{numbered_lines, read_on, lines_left}
+use Rattle.texts.specs.Walking.{numbered_lines, lines_left}
 use Rattle.texts.proofs.Going.{err_weaker}
 use Rattle.texts.proofs.Walking.{LineStands, stands, line_refused, line_passed}
 use Rattle.rules_text.specs.Reading.{Stands}
@@ -61,9 +61,3 @@ loop-at-preserved c =
       left = h.next ∙ ap (λ (i : ℕ). drop i (numbered_lines c.args.self.now.text.now)) (omega (arith, grown.1));
       located = grown.0;
     }
-
-pub returns-clause-answer : goal.returns-clause-answer
-returns-clause-answer c = λ x says.
-    let net = c.args.self.now.net.now in
-    let g = c.loop-at.invariant.comes x says in
-    (g.0, g.2.to ∙ ap (read_on (rules_reader (names net) (place_names net)) (Some g.0) (length c.args.self.now.text.now)) c.in-None.ensures.steps.0, g.1)
