@@ -164,11 +164,7 @@ fn is_whole(net: &NetText) -> bool
 fn check_end(net: &NetText, size: usize) -> Result<(), TextFault>
     ensures { (bs : List ℕ) → result ≡ end_read (net_of bs net.now) size }
 {
-    if is_whole(net) {
-        Ok(())
-    } else {
-        Err(WHOLE.fault(Refusal::NotOfKind, size))
-    }
+    WHOLE.check(is_whole(net), Refusal::NotOfKind, size)
 }
 
 // Reads a net text: the net that it says, or where it is wrong and why.

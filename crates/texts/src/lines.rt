@@ -37,6 +37,7 @@ fn is_allowed(b: u8) -> bool
 }
 
 // Refuses the first byte that no text may have.
+// Kept: the line number rises with the bytes that pass, so a `position` would need a second walk that counts the lines.
 fn check_bytes(text: &[u8]) -> Result<(), TextFault>
     ensures { result ≡ bytes_check text.now }
 {
@@ -56,9 +57,7 @@ fn check_bytes(text: &[u8]) -> Result<(), TextFault>
 pub fn check_text(text: &[u8]) -> Result<(), TextFault>
     ensures { result ≡ text_check text.now }
 {
-    if !is_text(text) {
-        return Err(WHOLE.fault(Refusal::Form, 0));
-    }
+    WHOLE.check(is_text(text), Refusal::Form, 0)?;
     check_bytes(text)
 }
 

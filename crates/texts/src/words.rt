@@ -72,6 +72,7 @@ pub fn is_name(field: &[u8]) -> bool
 }
 
 // The number that a few digits write; none where a byte is no digit.
+// Kept: a `try_fold` would be no plainer: its closure would hold the same test and the same sum.
 fn digits_value(field: &[u8]) -> Option<u32>
     requires { length field.now ≤ most_digits }
     ensures { result ≡ digits_of field.now }
