@@ -1,14 +1,13 @@
 -- What the checks of a setting come to, once the layer is not shut and the row has no rule.
-use Rattle.std.proofs.Common.{◌≡◌, ℕ, ◌<◌, Bool, true, false, not, ℤ, pos, ◌-ℤ◌, Ok, Err, Result, sym, refl, ap, ◌∙◌, ap₂, arith}
+use Rattle.std.proofs.Common.{◌≡◌, ℕ, Bool, true, false, not, ℤ, pos, ◌-ℤ◌, Ok, Err, Result, sym, refl, ap, ◌∙◌, ap₂, arith}
 use lib.Signed.{le_z}
 use Rattle.std.proofs.lemmas.Int.{ints}
-use Rattle.std.proofs.lemmas.Bool.{lt-ltb}
-use Rattle.model.specs.declared.refusal.Refusal.TheVariants.{NoRow, Shut, RowInUse, Broken}
+use Rattle.model.specs.declared.refusal.Refusal.TheVariants.{Shut, RowInUse, Broken}
 use Rattle.model.specs.declared.fault.Fault.{Fault}
 use Rattle.model.specs.Plant.{Answer, refuse_unless, setting_fault, ◌else_by◌}
 use Rattle.model.specs.Rule.{Rule, Worked, weighted_free}
 use Rattle.model.specs.Working.{work}
-use Rattle.model.specs.Layer.{Pile, row_count, is_shut, open_rows, holds_now, top_answer, board_answer}
+use Rattle.model.specs.Layer.{Pile, row_count, is_shut, holds_now, top_answer}
 use Rattle.layers.specs.Setting.{Checks}
 
 -- something is spare exactly where the sum is within the bound
@@ -43,7 +42,3 @@ module _ (p : Pile) (r : ℕ) (typed : Rule) (clear : is_shut (row_count p.top) 
 
     pub holds : Ok tt ≡ refuse_unless (le_z (pos 0) spare) f → Checks p r typed (Ok w)
     holds h = record { answer = judged (Ok tt) h; works = λ v k. sym e ∙ k }
-
--- a row that a board has
-pub board_row : (p : Pile) (r : ℕ) (typed : Rule) → r < open_rows p.top → top_answer p r typed ≡ board_answer p r typed
-board_row p r typed l = sym (ap (λ (b : Bool). refuse_unless b (setting_fault NoRow) else_by top_answer p r typed) (lt-ltb r (open_rows p.top) l))

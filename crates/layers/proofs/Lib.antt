@@ -3,7 +3,6 @@ pub mod Rowwise
 pub mod Calls
 pub mod Fresh
 pub mod Raising
-pub mod Made
 pub mod Checking
 pub mod RowSet
 pub mod Stacking

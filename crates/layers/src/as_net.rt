@@ -11,6 +11,7 @@ use plant::net::Net;
 use plant::plant::Plant;
 
 // The ground places and the moves are those below; the control places of the rows come after all places below.
+// Kept: a `match` in each method, since `map_or_else` would take two closures, and one that asks the plant below needs clauses.
 impl<P: Plant, R: Rows> Net for Layer<P, R> {
     ghost net = { λ s. layer_net (row_count R.Rows.top) (P.Net.net s.below) (R.Rows.rows s.rows) };
 

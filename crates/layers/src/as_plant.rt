@@ -1,7 +1,8 @@
 // A layer as a plant: each call is refused as below if refused below, else by the layer's own rows. As a pile a shut layer has blank
 // rows, so each call says besides that it leaves those of a shut layer alone.
+// Kept: three calls alike, since a shared one would take closures on the plant below and on the rows, with clauses of their own.
 ghost use Rattle.std.specs.Prelude.{◌≡◌, ℕ, true, if◌then◌else◌};
-ghost use Rattle.layers.specs.Piles.{net_with, tokens_with, pile_of};
+ghost use Rattle.layers.specs.Piles.{pile_of};
 ghost use Rattle.model.specs.Layer.{is_shut, layer_free, row_count, pile_begun, pile_finished, pile_gone_back};
 ghost use Rattle.model.specs.Plant.{accepted, begin_answer, finish_answer, back_answer, begun, finished, gone_back};
 ghost use Rattle.layers.specs.Shut.{same_net, same_free};

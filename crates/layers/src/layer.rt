@@ -37,6 +37,7 @@ impl<P: Plant, R: Rows> Layer<P, R> {
     }
 
     // The number of this layer: one above the highest below.
+    // Kept: a `for`, since a closure that asks the plant below needs clauses of its own under `fold`, longer than the loop.
     pub(crate) fn next_layer(&self) -> usize
         ensures { result ≡ next_layer (P.Net.net self.now.below).places (P.Net.net self.now.below).layer }
     {
@@ -48,6 +49,7 @@ impl<P: Plant, R: Rows> Layer<P, R> {
     }
 
     // Refused for the move `t` at the row that was found, if one was.
+    // Kept: a `match`, since `map_or` would take the same two arms, the longer one first.
     pub(crate) fn refuse_at(
         &self,
         refusal: Refusal,

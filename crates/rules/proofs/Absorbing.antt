@@ -1,9 +1,9 @@
 -- The numbers of a round, and the weights and the bound after it.
-use Rattle.std.proofs.Common.{◌≡◌, ℕ, ◌+◌, ◌-◌, ◌*◌, ◌/◌, ◌^◌, ◌<◌, ◌≤◌, Bool, true, false, cond, not, T, eqb, List, length, get_or, set, ℤ, pos, negsuc, ◌+ℤ◌, ◌-ℤ◌, ◌*ℤ◌, nat_abs, sym, refl, ap, ◌∙◌, ap₂, inl, inr, div-le_self, arith, w32, Fits, SFits, to_z, of_z, below_more}
+use Rattle.std.proofs.Common.{◌≡◌, ℕ, ◌+◌, ◌-◌, ◌*◌, ◌/◌, ◌^◌, ◌<◌, ◌≤◌, Bool, true, false, cond, not, T, eqb, List, length, get_or, set, ℤ, pos, negsuc, ◌+ℤ◌, ◌-ℤ◌, ◌*ℤ◌, nat_abs, sym, refl, ap, ◌∙◌, ap₂, div-le_self, arith, w32, Fits, SFits, to_z, of_z}
 use lib.Signed.{lt_z, non_neg}
-use Rattle.std.proofs.lemmas.List.{get_or_past, get_or-set_same, get_or-set_other, length-set}
+use Rattle.std.proofs.lemmas.List.{get_or-set_same, get_or-set_other}
 use Rattle.std.proofs.lemmas.Int.{ints, to_z_pos}
-use Rattle.std.proofs.lemmas.Bool.{and_parts, cases_lt, ltb-true, eqb-true, eqb-false}
+use Rattle.std.proofs.lemmas.Bool.{and_parts, ltb-true, eqb-true, eqb-false}
 use Rattle.model.specs.Sizes.{most_places, most_arc, most_worked_weight, most_worked_bound}
 use Rattle.model.specs.Net.{Net, Ranges, incidence}
 use Rattle.model.specs.Rule.{Worked, raise, positive}
@@ -120,19 +120,6 @@ module _ {n : Net} (s : Ranges n) {w : Worked} (weights : (p : ℕ) → nat_abs 
 -- ---- the weights
 pub factor_kept : (z : ℤ) → nat_abs z ≤ most_arc → to_z w32 (of_z w32 z) ≡ z
 factor_kept z h = omega (arith, ints)
-
--- one more entry written
-pub one_more_set : (xs : List ℤ) (f : ℕ → ℤ) (p : ℕ) (v : ℤ) → length xs ≡ most_places → p < most_places → ((q : ℕ) → q < p → get_or xs q (pos 0) ≡ f q) → v ≡ f p
-    → (length (set xs p v) ≡ most_places) × ((q : ℕ) → q < p + 1 → get_or (set xs p v) q (pos 0) ≡ f q)
-one_more_set xs f p v size l below here = (
-  length-set xs p v ∙ size,
-  below_more (λ q. get_or (set xs p v) q (pos 0) ≡ f q) p (λ q h. get_or-set_other xs p q v (pos 0) (λ e. omega arith) ∙ below q h) (get_or-set_same xs p v (pos 0) (omega arith) ∙ here),
-)
-
--- all entries written, and f is 0 beyond them
-pub all_set : (xs : List ℤ) (f : ℕ → ℤ) (p : ℕ) → length xs ≡ most_places → most_places ≤ p → ((q : ℕ) → q < p → get_or xs q (pos 0) ≡ f q) → ((q : ℕ) → most_places ≤ q → f q ≡ pos 0)
-    → (q : ℕ) → get_or xs q (pos 0) ≡ f q
-all_set xs f p size l below beyond q = elim (cases_lt q most_places) [ inl h ↦ below q (omega arith) | inr h ↦ get_or_past xs q (pos 0) (omega arith) ∙ sym (beyond q h) ]
 
 pub times_none : (z : ℤ) → z *ℤ pos 0 ≡ pos 0
 times_none z = omega (arith, ints)

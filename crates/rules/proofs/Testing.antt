@@ -5,7 +5,7 @@ use Rattle.std.proofs.lemmas.List.{get_or_past, get_or-take, get_or-drop, get_or
 use Rattle.std.proofs.lemmas.List.Folds.{list_all_more}
 use Rattle.std.proofs.lemmas.List.Sums.{AllPass-from_list_all, list_all-from_AllPass}
 use Rattle.std.proofs.lemmas.Int.{ints}
-use Rattle.std.proofs.lemmas.Bool.{cases_lt, ltb-true, ltb-false, leb-true, le-leb, eqb-true, eq-eqb, and_from, and_left, or_from, or_left, or_right, or_cases, and_parts, cases_Bool, cond-true, cond-false}
+use Rattle.std.proofs.lemmas.Bool.{cases_lt, ltb-true, ltb-false, leb-true, le-leb, eqb-true, eq-eqb, and_from, and_left, or_left, or_right, or_cases, and_parts, cases_Bool, cond-true, cond-false}
 use Rattle.model.specs.declared.refusal.Refusal.TheVariants.{NotTyped}
 use Rattle.model.specs.declared.fault.Fault.{Fault}
 use Rattle.model.specs.Sizes.{most_places, most_all_places, most_weight, most_bound, most_worked_weight, most_worked_bound}

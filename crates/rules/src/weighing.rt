@@ -41,6 +41,8 @@ impl WorkedRule {
     }
 
     // By how much the move `t` raises the weighted sum of the tokens.
+    // Kept: a `for` here and below, since `sum` of signed numbers is given no bound, and one function of both would need clauses on
+    // the closure that are longer than a loop.
     pub fn raise<N: Net>(&self, net: &N, t: usize) -> i32
         ensures { result ≡ raise_of (N.Net.net net.now) (worked_of self.now).weight t }
     {

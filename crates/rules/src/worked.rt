@@ -5,6 +5,7 @@ ghost use Rattle.model.specs.Sizes.{most_worked_weight, most_worked_bound, most_
 use model::sizes::MOST_PLACES;
 
 // The rule L'·m ≤ b' that a typed rule was worked to, and how many rounds changed it.
+// Kept: beside `TypedRule`, which any numbers may go in, since these are closed and small.
 #[derive(Clone, Copy)]
 pub struct WorkedRule {
     pub(crate) weights: [i32; MOST_PLACES],

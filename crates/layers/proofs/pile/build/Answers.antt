@@ -1,5 +1,4 @@
 use Rattle.std.proofs.Common.{◌≡◌, refl, sym, ap, ◌∙◌, subst}
-use Rattle.std.proofs.lemmas.Result.{err_from_is_err_and}
 use Rattle.model.specs.Sizes.{monitor_rows}
 use Rattle.model.specs.Layer.{Pile, board, pile_net, pile_free, monitor_answer}
 use Rattle.rules.specs.Rules.{rule_of}
@@ -10,15 +9,8 @@ use Rattle.layers.specs.Shut.{same_net, same_free}
 use Rattle.layers.proofs.Stacking.{stacked}
 use Rattle.layers.proofs.pile.build.Goals as goal
 
-pub returns-in_err-set : goal.returns-in_err-set
-returns-in_err-set g c =
-    let typed = rule_of c.args.fixed.now in
-    let e = err_from_is_err_and c.from_residual.result c.from_residual.ensures.1 in
-    rw (e.1, e.2)
-    (record { answer = c.in_err-set.ensures.answer ∙ ap (λ (p : Pile). monitor_answer p typed) c.new-monitor.ensures.fresh.pile; kept = tt; pile = tt })
-
-pub returns : goal.returns
-returns g c =
+pub returns-clause-pile : goal.returns-clause-pile
+returns-clause-pile g c =
     let typed = rule_of c.args.fixed.now in
     let new = c.new-monitor.ensures.fresh.pile in
     let set = c.in_ok-set.ensures in
@@ -28,9 +20,5 @@ returns g c =
     let n = g.P.Net.net m.below in
     let over : _ ≡ new_pile board (pile_net after) (pile_free after) = c.new.ensures.fresh.pile
     ∙ (λ i. new_pile board (sym (same_net monitor_rows n (rows_of m.rows.rows)) i) (sym (same_free monitor_rows n (rows_of m.rows.rows) (g.P.Plant.tokens m.below)) i)) in
-    record {
-      answer = ok;
-      kept = ap (λ s. s.below) c.new.ensures.below ∙ set.below ∙ c.new-monitor.ensures.below;
-      pile = stacked (g.P.Net.net c.args.plant) (g.P.Plant.tokens c.args.plant) typed (g.met.P.Net.sound c.args.plant) (g.met.P.Plant.within c.args.plant) after
-          (stack_pile g.P.Net.net g.P.Plant.tokens c.new.result) ok (subst (λ (p : Pile). SetTo p after 0 typed) new (set.set refl)) over;
-    }
+    stacked (g.P.Net.net c.args.plant) (g.P.Plant.tokens c.args.plant) typed (g.met.P.Net.sound c.args.plant) (g.met.P.Plant.within c.args.plant) after
+    (stack_pile g.P.Net.net g.P.Plant.tokens c.new.result) ok (subst (λ (p : Pile). SetTo p after 0 typed) new (set.set refl)) over

@@ -2,7 +2,7 @@ use Rattle.std.proofs.Common.{◌≡◌, ℕ, ◌<◌, get_or, pos, rules}
 use Rattle.model.specs.Rule.{raise}
 use Rattle.model.specs.Sizes.{most_moves}
 use Rattle.rules.specs.Rules.{worked_of}
-use Rattle.layers.proofs.Made.{made_at}
+use Rattle.plant.proofs.Made.{made_at}
 use Rattle.layers.proofs.Raising.{raised_all, raised_small}
 use Rattle.layers.proofs.setting.raises.Goals as goal
 

@@ -5,7 +5,7 @@ use Rattle.model.specs.Layer.{row_count}
 use Rattle.rules.specs.Rules.{rule_of, worked_of}
 use Rattle.layers.specs.Piles.{pile_of}
 use Rattle.layers.specs.Shut.{row_unused}
-use Rattle.layers.proofs.Checking.{passed, not_worked, broken, holds}
+use Rattle.layers.proofs.Checking.{passed, broken, holds}
 use Rattle.layers.proofs.layer.Layer.check_rule.Goals as goal
 
 pub returns-in_err-unless-3 : goal.returns-in_err-unless-3

@@ -5,7 +5,6 @@ use Rattle.model.specs.Sizes.{control_limit}
 use Rattle.model.specs.Layer.{is_shut, row_count}
 use Rattle.model.proofs.TopRow.{top_says}
 use Rattle.model.specs.Rule.{weighted_free}
-use Rattle.model.proofs.Checks.{err_not_ok}
 use Rattle.rules.specs.Rules.{rule_of, worked_of}
 use Rattle.layers.specs.Piles.{pile_of}
 use Rattle.layers.specs.Shut.{changed_rows}
@@ -24,17 +23,17 @@ overflow_cast-free g c =
     let low : T (non_neg _) = subst (λ (z : ℤ). T (non_neg z)) (sym spare) (spare_nonneg w.bound sum (holds_so p c.args.r (rule_of c.args.typed.now) w checks.answer (checks.works w refl))) in
     (low, search rules)
 
-pub set_rule-requires : goal.set_rule-requires
-set_rule-requires g c =
+pub set_rule-requires-clause-room : goal.set_rule-requires-clause-room
+set_rule-requires-clause-room g c =
     let s = c.args.self.now in
     let w = worked_of c.in_ok-rule.rule in
     let fits : SFits w32 c.spare-free.result = search rules in
     let spare = to_z-of_z w32 c.spare-free.result fits ∙ c.spare-free.ensures in
     let most = spare_small (g.P.Net.net s.below) (g.P.Plant.tokens s.below) w (g.met.P.Net.sound s.below) (g.met.P.Plant.within s.below) c.in_ok-rule.rule.small_weights c.in_ok-rule.rule.small_bound in
-    record { row = c.requires; room = subst (λ (z : ℤ). nat_abs z ≤ control_limit) (sym spare) most; small = c.raises-raises.ensures.small }
+    subst (λ (z : ℤ). nat_abs z ≤ control_limit) (sym spare) most
 
-pub returns : goal.returns
-returns g c =
+pub returns-clause-set : goal.returns-clause-set
+returns-clause-set g c =
     let s = c.args.self.now in
     let p = pile_of g.R.Rows.top g.P.Net.net g.P.Plant.tokens g.R.Rows.rows s in
     let w = worked_of c.in_ok-rule.rule in
@@ -44,9 +43,4 @@ returns g c =
     let after = changed_rows size p.below (g.R.Rows.rows s.rows) c.args.r _ (g.R.Rows.rows c.set_rule.new.self) clear c.set_rule.ensures in
     let fits : SFits w32 c.spare-free.result = search rules in
     let spare = to_z-of_z w32 c.spare-free.result fits ∙ c.spare-free.ensures in
-    record {
-      answer = checks.answer;
-      below = refl;
-      refused = λ f e. absurd (err_not_ok f (sym e));
-      set = λ _. set_to p c.args.r (rule_of c.args.typed.now) w checks.answer (checks.works w refl) (g.met.P.Net.sound s.below) c.requires c.raises-raises.result _ c.raises-raises.ensures.value (ap nat_abs spare) _ after;
-    }
+    λ _. set_to p c.args.r (rule_of c.args.typed.now) w checks.answer (checks.works w refl) (g.met.P.Net.sound s.below) c.requires c.raises-raises.result _ c.raises-raises.ensures.value (ap nat_abs spare) _ after

@@ -1,4 +1,4 @@
-use Rattle.std.proofs.Common.{ℕ, replicate, sym, subst}
+use Rattle.std.proofs.Common.{ℕ, sym, subst}
 use Rattle.std.proofs.lemmas.List.{length-replicate}
 use Rattle.model.specs.Layer as model
 use Rattle.layers.specs.Kept.{Kept, kept_blank, rows_blank}

@@ -1,4 +1,4 @@
-use Rattle.std.proofs.Common.{ℕ, ◌<◌, length, sym, ap, ◌∙◌, subst, arith}
+use Rattle.std.proofs.Common.{ℕ, ◌<◌, length, sym, ◌∙◌, subst, arith}
 use Rattle.std.proofs.lemmas.List.{length-set}
 use Rattle.model.specs.Layer as model
 use Rattle.layers.specs.Rows.{rows_of}
@@ -15,9 +15,3 @@ invariant_of-self g c =
       sized = s.sized;
       kept = λ i. subst (λ (f : ℕ → model.Row). Kept (f i)) (sym (rows_set s.rows c.args.r _ l)) (kept_change (rows_of s.rows) c.args.r _ s.kept new i);
     }
-
-pub returns : goal.returns
-returns g c =
-    let s = c.args.self.now in
-    let l : c.args.r < length s.rows = omega (arith, s.all, s.sized, c.requires.row) in
-    rows_set s.rows c.args.r _ l

@@ -1,4 +1,4 @@
-use Rattle.std.proofs.Common.{ℕ, ◌<◌, length, get_or, pos, sym, ap, ◌∙◌, subst, arith}
+use Rattle.std.proofs.Common.{ℕ, ◌<◌, length, get_or, pos, sym, ◌∙◌, subst, arith}
 use Rattle.std.proofs.lemmas.List.{length-set}
 use Rattle.model.specs.Layer as model
 use Rattle.layers.specs.Rows.{rows_of, rule_row}
@@ -16,9 +16,3 @@ invariant_of-self g c =
       kept = λ i. subst (λ (f : ℕ → model.Row). Kept (f i)) (sym (rows_set s.rows c.args.r c.set_rule.new.self l))
           (kept_change (rows_of s.rows) c.args.r _ s.kept (subst Kept (sym c.set_rule.ensures) new) i);
     }
-
-pub returns : goal.returns
-returns g c =
-    let s = c.args.self.now in
-    let l : c.args.r < length s.rows = omega (arith, s.all, s.sized, c.requires.row) in
-    rows_set s.rows c.args.r c.set_rule.new.self l ∙ ap (model.change_row (rows_of s.rows) c.args.r) c.set_rule.ensures
