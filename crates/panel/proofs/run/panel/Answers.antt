@@ -1,4 +1,4 @@
-use Rattle.std.proofs.Common.{◌≡◌, ℕ, List, ◌++◌, Result, Ok, vec_items, sym, ap, ◌∙◌, subst}
+use Rattle.std.proofs.Common.{◌≡◌, ℕ, List, ◌++◌, Result, Ok, vec_items, codes, sym, ap, ◌∙◌, subst}
 use Rattle.formats.specs.declared.fault.TextFault.{TextFault}
 use Rattle.formats.specs.NetText.{NetText, names, place_names}
 use Rattle.formats.specs.RulesText.{RulesText, read_rules}
@@ -7,27 +7,36 @@ use Rattle.formats.proofs.RulesLaws.{rules_exact}
 use Rattle.net_text.specs.Nets.{net_of}
 use Rattle.panel.specs.Cells.{cell_of}
 use Rattle.panel.specs.Orders.{Started}
+use Rattle.panel.specs.Prints.{bad_line}
 use Rattle.panel.specs.Run.{by_rules, by_net}
 use Rattle.panel.proofs.Started.{only_one}
 use Rattle.panel.proofs.run.panel.Goals as goal
 use Rattle.panel.proofs.run.panel.Goals.{in-Ok+in_ok-run_rules-in-Ok, in-Err+in_ok-put_stop-in-Err}
 
-pub returns-clause-proper : goal.returns-clause-proper
-returns-clause-proper c = λ x y p w q v.
+pub returns-clause-printed : goal.returns-clause-printed
+returns-clause-printed c =
+    let by = λ (r : Result NetText TextFault). by_net r c.args.rules.now c.args.orders.now in
     elim c.match-read_net.branch [
       | in-Ok+in_ok-run_rules-in-Ok k ↦
           let read : NetText = net_of c.args.net.now k.in-Ok.read in
-          let by = λ (r : Result NetText TextFault). by_net r c.args.rules.now c.args.orders.now in
           ap vec_items k.out-is
           ∙ k.in_ok-run_rules-in-Ok.ensures.printed
           ∙ ap (λ (o : List ℕ). o ++ by_rules read (read_rules (names read) (place_names read) c.args.rules.now) c.args.orders.now) c.new-out.ensures.items
           ∙ sym (ap by k.in-Ok.ensures.answer)
-          ∙ ap by ((net_exact c.args.net.now x).1 p w)
-          ∙ ap (λ (r : Result RulesText TextFault). by_rules x r c.args.orders.now) ((rules_exact x p.right c.args.rules.now y).1 q v)
       | in-Err+in_ok-put_stop-in-Err k ↦
-          let not_written = rw k.in_ok-put_stop-in-Err.ensures.1 at k.in-Err.ensures.accepted in
-          absurd (not_written x p w)
+          let fault : TextFault = k.in_ok-put_stop-in-Err.ensures.0 in
+          let refused = rw k.in_ok-put_stop-in-Err.ensures.1 at k.in-Err.ensures.answer in
+          ap vec_items k.out-is
+          ∙ k.in_ok-put_stop-in-Err.ensures.2
+          ∙ ap (λ (o : List ℕ). o ++ bad_line (codes "net") fault) c.new-out.ensures.items
+          ∙ sym (ap by refused)
     ]
+
+pub returns-clause-proper : goal.returns-clause-proper
+returns-clause-proper c = λ x y p w q v.
+    returns-clause-printed c
+    ∙ ap (λ (r : Result NetText TextFault). by_net r c.args.rules.now c.args.orders.now) ((net_exact c.args.net.now x).1 p w)
+    ∙ ap (λ (r : Result RulesText TextFault). by_rules x r c.args.orders.now) ((rules_exact x p.right c.args.rules.now y).1 q v)
 
 pub returns-clause-built : goal.returns-clause-built
 returns-clause-built c = λ x y p w q v.
