@@ -7,17 +7,16 @@ mod making;
 mod turns;
 
 use crate::making::{full_ledger, make_bank, make_line, make_table};
-use crate::turns::{fire_turns, grant_moves, grant_turns};
+use crate::turns::take_turns;
 use ledger::ledger::Ledger;
 use plant::plant::Plant;
 use std::{fs, io};
 
 fn read_turns(rt: &HostRuntime) -> io::Result<u32> {
     let text = fs::read_to_string(rt, "turns")?;
-    let Ok(turns) = text.trim().parse::<u32>() else {
-        return Err(io::Error::other("the file turns has no number"));
-    };
-    Ok(turns)
+    text.trim()
+        .parse::<u32>()
+        .map_err(|_| io::Error::other("the file turns has no number"))
 }
 
 fn run_plant<P: Plant + Drop>(
@@ -26,7 +25,7 @@ fn run_plant<P: Plant + Drop>(
     mut plant: P,
     turns: u32,
 ) -> io::Result<()> {
-    let passed = fire_turns(&mut plant, turns);
+    let passed = take_turns(&mut plant, turns, P::begin, P::back);
     println!(rt;
         "{name}: {passed} calls passed in {turns} turns; free at place 0: {}",
         plant.free(0)
@@ -40,8 +39,9 @@ fn run_ledger<P: Plant + Drop>(
     open: usize,
     turns: u32,
 ) -> io::Result<()> {
-    let granted = grant_moves(&mut ledger, open);
-    let passed = grant_turns(&mut ledger, turns);
+    // These grants stay open.
+    let granted = (0..open).filter(|t| ledger.grant(*t).is_ok()).count();
+    let passed = take_turns(&mut ledger, turns, Ledger::grant, Ledger::cancel);
     println!(rt;
         "{name}: {granted} open, {passed} calls passed in {turns} turns; free at place 0: {}",
         ledger.free(0)

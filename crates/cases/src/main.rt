@@ -23,9 +23,7 @@ fn trimmed(field: &str) -> &str {
 // Adds what is printed for one case: its title, and what the panel prints for it.
 fn run_case(heap: Global, line: &str, out: &mut Vec<u8>) -> io::Result<()> {
     let mut fields = line.splitn(4, '|');
-    let [title, net, rules, orders]: [&str; 4] = array::from_fn(|_| fields
-        .next()
-        .unwrap_or_default());
+    let [title, net, rules, orders]: [&str; 4] = array::from_fn(|_| fields.next().unwrap_or(""));
     let net = decode(heap, trimmed(net))?;
     let rules = decode(heap, trimmed(rules))?;
     let orders = decode(heap, trimmed(orders))?;

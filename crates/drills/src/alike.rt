@@ -3,12 +3,10 @@
 // The machine goes from idle to load, work and done, and is idle again. The line has the places load, work and done alone, so
 // that only its fixed rule keeps the second one out, where in the bank it is the idle place.
 use crate::nets::{make_bank, make_line, make_table};
-use crate::orders::run_calls;
+use crate::orders::{open_cell, run_calls};
 use crate::show::Shown;
 use crate::typing::typed;
-use layers::pile::build;
 use ledger::call::Call::{self, Admit, Cancel, Commit, Grant, Report};
-use ledger::ledger::Ledger;
 use plant::plant::Plant;
 use rules::typed::TypedRule;
 use std::io;
@@ -78,10 +76,7 @@ fn alike_calls(done: &[i32]) -> [Call; 25] {
 }
 
 fn run_plant<P: Plant + Drop>(rt: &HostRuntime, plant: P, layout: &Layout) -> io::Result<()> {
-    let Ok(pile) = build(plant, &layout.fixed) else {
-        return Err(io::Error::other("the fixed rule is refused"));
-    };
-    let mut ledger = Ledger::new(pile);
+    let mut ledger = open_cell(plant, &layout.fixed)?;
     run_calls(rt, &mut ledger, &alike_calls(&layout.done), layout.shown)
 }
 

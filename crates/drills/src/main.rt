@@ -6,6 +6,7 @@ mod alike;
 mod firing;
 mod many;
 mod nets;
+mod order;
 mod orders;
 mod room;
 mod setting;

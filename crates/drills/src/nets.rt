@@ -6,34 +6,28 @@ use net_text::reader::read_net;
 use std::{fs, io};
 use table::table::Table;
 
-fn read(rt: &HostRuntime, path: &str) -> io::Result<NetText> {
+// What is made of the net text at the path, or an error with these words where nothing can be made of it.
+fn made<P, F: FnOnce(&NetText) -> Option<P>>(
+    rt: &HostRuntime,
+    path: &str,
+    make: F,
+    words: &str,
+) -> io::Result<P>
+    requires { F.IsAlwaysCallable make }
+{
     let text = fs::read(rt, path)?;
-    let Ok(net) = read_net(rt.alloc(), &text) else {
-        return Err(io::Error::other("a net text is refused"));
-    };
-    Ok(net)
+    let net = read_net(rt.alloc(), &text).map_err(|_| io::Error::other("a net text is refused"))?;
+    make(&net).ok_or_else(|| io::Error::other(words))
 }
 
 pub fn make_table(rt: &HostRuntime, path: &str) -> io::Result<Table> {
-    let net = read(rt, path)?;
-    let Some(plant) = table::make::make(&net) else {
-        return Err(io::Error::other("a net text is no table's"));
-    };
-    Ok(plant)
+    made(rt, path, table::make::make, "a net text is no table's")
 }
 
 pub fn make_bank(rt: &HostRuntime, path: &str) -> io::Result<Bank> {
-    let net = read(rt, path)?;
-    let Some(plant) = bank::making::make(&net) else {
-        return Err(io::Error::other("a net text is no bank's"));
-    };
-    Ok(plant)
+    made(rt, path, bank::making::make, "a net text is no bank's")
 }
 
 pub fn make_line(rt: &HostRuntime, path: &str) -> io::Result<Line> {
-    let net = read(rt, path)?;
-    let Some(plant) = line::making::make(&net) else {
-        return Err(io::Error::other("a net text is no line's"));
-    };
-    Ok(plant)
+    made(rt, path, line::making::make, "a net text is no line's")
 }

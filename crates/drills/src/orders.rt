@@ -1,6 +1,6 @@
 // The calls of a cell, one by one and as a list: a board over a monitor over the zone, which holds at most two.
 use crate::nets::make_table;
-use crate::show::{Shown, print_answer, print_ledger, print_rule};
+use crate::show::{Called, Shown, Told, print_ledger};
 use crate::typing::typed;
 use layers::board::Board;
 use layers::monitor::Monitor;
@@ -8,38 +8,29 @@ use layers::pile::build;
 use ledger::call::Call::{self, Admit, Cancel, Commit, Grant, Report};
 use ledger::ledger::Ledger;
 use plant::plant::Plant;
+use rules::typed::TypedRule;
 use std::io;
 use table::table::Table;
 
 pub type Cell<P> = Ledger<Board<Monitor<P>>>;
 
 // Of the zone's cell: the three ground places, the monitor's and the board's first.
-pub const ZONE: Shown = Shown {
+pub const SHOWN: Shown = Shown {
     places: 5,
     ground_places: 3,
     moves: 3,
 };
 
-pub fn open_zone(rt: &HostRuntime) -> io::Result<Cell<Table>> {
-    let plant = make_table(rt, "n1.net")?;
-    let Ok(pile) = build(plant, &typed(&[0, 1], 2)) else {
-        return Err(io::Error::other("the fixed rule is refused"));
-    };
+// A ledger on a board over a monitor that is set to the fixed rule.
+pub fn open_cell<P: Plant + Drop>(plant: P, fixed: &TypedRule) -> io::Result<Cell<P>> {
+    let pile = build(plant, fixed).map_err(|_| io::Error::other("the fixed rule is refused"))?;
     Ok(Ledger::new(pile))
 }
 
-fn print_call(rt: &HostRuntime, call: &Call) -> io::Result<()> {
-    match call {
-        Grant(t) => print!(rt; "grant {t}: "),
-        Commit(t) => print!(rt; "commit {t}: "),
-        Cancel(t) => print!(rt; "cancel {t}: "),
-        Report(t) => print!(rt; "report {t}: "),
-        Admit(r, rule) => {
-            print!(rt; "admit {r}, ")?;
-            print_rule(rt, rule)?;
-            print!(rt; ": ")
-        }
-    }
+pub type Zone = Cell<Table>;
+
+pub fn open_zone(rt: &HostRuntime) -> io::Result<Zone> {
+    open_cell(make_table(rt, "n1.net")?, &typed(&[0, 1], 2))
 }
 
 pub fn run_calls<P: Plant>(
@@ -49,9 +40,8 @@ pub fn run_calls<P: Plant>(
     shown: Shown,
 ) -> io::Result<()> {
     for call in calls {
-        print_call(rt, call)?;
         let answer = ledger.make(call);
-        print_answer(rt, answer)?;
+        print!(rt; "{}: {}", Called(call), Told(answer))?;
         print_ledger(rt, ledger, shown)?;
     }
     Ok(())
@@ -76,9 +66,9 @@ fn zone_calls() -> [Call; 10] {
 fn run_one_by_one(rt: &HostRuntime) -> io::Result<()> {
     println!(rt; "the zone, call by call")?;
     let mut ledger = open_zone(rt)?;
-    run_calls(rt, &mut ledger, &zone_calls(), ZONE)?;
+    run_calls(rt, &mut ledger, &zone_calls(), SHOWN)?;
     println!(rt; "free at place 4: {}", ledger.free(4))?;
-    run_calls(rt, &mut ledger, &[Grant(1)], ZONE)
+    run_calls(rt, &mut ledger, &[Grant(1)], SHOWN)
 }
 
 fn run_list(rt: &HostRuntime) -> io::Result<()> {
@@ -86,11 +76,10 @@ fn run_list(rt: &HostRuntime) -> io::Result<()> {
     let mut ledger = open_zone(rt)?;
     let answers = ledger.run(rt.alloc(), &zone_calls())?;
     for answer in answers.iter() {
-        print_answer(rt, *answer)?;
-        println!(rt; "")?;
+        println!(rt; "{}", Told(*answer))?;
     }
     print!(rt; "{} answers", answers.len())?;
-    print_ledger(rt, &ledger, ZONE)
+    print_ledger(rt, &ledger, SHOWN)
 }
 
 pub fn run(rt: &HostRuntime) -> io::Result<()> {

@@ -1,8 +1,8 @@
 // Room: a line of two places that hold one each, the first full.
 use crate::nets::make_line;
-use crate::show::{Shown, print_answer, print_ledger};
+use crate::order::Order::{self, Cancel, Commit, Grant, Report};
+use crate::show::{Shown, Told, print_ledger};
 use ledger::ledger::Ledger;
-use model::fault::Fault;
 use plant::plant::Plant;
 use std::io;
 
@@ -12,47 +12,16 @@ const SHOWN: Shown = Shown {
     moves: 3,
 };
 
-#[derive(Clone, Copy)]
-enum Order {
-    Grant(usize),
-    Commit(usize),
-    Cancel(usize),
-    Report(usize),
-}
-
-use Order::{Cancel, Commit, Grant, Report};
-
-fn print_order(rt: &HostRuntime, order: Order) -> io::Result<()> {
-    match order {
-        Grant(t) => print!(rt; "grant {t}: "),
-        Commit(t) => print!(rt; "commit {t}: "),
-        Cancel(t) => print!(rt; "cancel {t}: "),
-        Report(t) => print!(rt; "report {t}: "),
-    }
-}
-
-// What the ledger says that it would answer, and what it then answers.
-fn obey<P: Plant>(ledger: &mut Ledger<P>, order: Order) -> (Result<(), Fault>, Result<(), Fault>) {
-    match order {
-        Grant(t) => (ledger.may_grant(t), ledger.grant(t)),
-        Commit(t) => (ledger.may_commit(t), ledger.commit(t)),
-        Cancel(t) => (ledger.may_cancel(t), ledger.cancel(t)),
-        Report(t) => (ledger.may_report(t), ledger.report(t)),
-    }
-}
-
 // A ledger straight on a plant, with no layer between: each order is asked for first.
-fn run_orders<P: Plant>(
+fn ask_and_run<P: Plant>(
     rt: &HostRuntime,
     ledger: &mut Ledger<P>,
     orders: &[Order],
 ) -> io::Result<()> {
     for order in orders {
-        print_order(rt, *order)?;
-        let (asked, answer) = obey(ledger, *order);
-        print_answer(rt, asked)?;
-        print!(rt; ", ")?;
-        print_answer(rt, answer)?;
+        let asked = order.ask(ledger);
+        let answer = order.make(ledger);
+        print!(rt; "{order}: {}, {}", Told(asked), Told(answer))?;
         print_ledger(rt, ledger, SHOWN)?;
     }
     Ok(())
@@ -82,5 +51,5 @@ pub fn run(rt: &HostRuntime) -> io::Result<()> {
         Cancel(3),
         Report(3),
     ];
-    run_orders(rt, &mut ledger, &orders)
+    ask_and_run(rt, &mut ledger, &orders)
 }

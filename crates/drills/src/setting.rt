@@ -1,5 +1,5 @@
 // Setting rules, with what is answered.
-use crate::show::{print_answer, print_rule};
+use crate::show::{Told, Written};
 use layers::board::Board;
 use layers::monitor::Monitor;
 use plant::plant::Plant;
@@ -11,11 +11,8 @@ pub fn set_monitor<P: Plant>(
     monitor: &mut Monitor<P>,
     rule: &TypedRule,
 ) -> io::Result<()> {
-    print!(rt; "set ")?;
-    print_rule(rt, rule)?;
-    print!(rt; ": ")?;
     let answer = monitor.set(rule);
-    print_answer(rt, answer)
+    print!(rt; "set {}: {}", Written(rule), Told(answer))
 }
 
 pub fn set_row<P: Plant>(
@@ -24,9 +21,6 @@ pub fn set_row<P: Plant>(
     r: usize,
     rule: &TypedRule,
 ) -> io::Result<()> {
-    print!(rt; "set row {r}, ")?;
-    print_rule(rt, rule)?;
-    print!(rt; ": ")?;
     let answer = board.set(r, rule);
-    print_answer(rt, answer)
+    print!(rt; "set row {r}, {}: {}", Written(rule), Told(answer))
 }

@@ -1,43 +1,23 @@
 // Boards over boards until one is shut, and shut monitors: they add no place and no rule can be set there.
 use crate::firing::Firing::{self, Back, Begin, Finish};
-use crate::firing::{fire, print_firing};
+use crate::firing::run_shown;
 use crate::nets::{make_bank, make_line, make_table};
 use crate::setting::{set_monitor, set_row};
-use crate::show::print_answer;
 use crate::typing::typed;
 use layers::board::Board;
 use layers::monitor::Monitor;
-use plant::net::Net;
 use plant::plant::Plant;
 use std::io;
 
-// The plants that the boards stand on.
-#[derive(Clone, Copy)]
-enum Case {
-    OnTable,
-    OnBank,
-    OnLine,
-}
-
-fn print_places<P: Plant>(rt: &HostRuntime, layer: &str, plant: &P) -> io::Result<()> {
-    println!(rt; "{layer}: {} places", plant.places())
-}
-
-fn put_board<P: Plant + Drop>(rt: &HostRuntime, plant: P) -> io::Result<Board<P>> {
-    let board = Board::new(plant);
-    print_places(rt, "board", &board)?;
-    Ok(board)
-}
-
-fn put_monitor<P: Plant + Drop>(rt: &HostRuntime, plant: P) -> io::Result<Monitor<P>> {
-    let monitor = Monitor::new(plant);
-    print_places(rt, "monitor", &monitor)?;
-    Ok(monitor)
+// Tells how many places the layer or plant has.
+fn put<L: Plant + Drop>(rt: &HostRuntime, name: &str, layer: L) -> io::Result<L> {
+    println!(rt; "{name}: {} places", layer.places())?;
+    Ok(layer)
 }
 
 fn put_two<P: Plant + Drop>(rt: &HostRuntime, plant: P) -> io::Result<Board<Board<P>>> {
-    let lower = put_board(rt, plant)?;
-    put_board(rt, lower)
+    let lower = put(rt, "board", Board::new(plant))?;
+    put(rt, "board", Board::new(lower))
 }
 
 // Each call with its answer and the tokens at these places after it.
@@ -47,24 +27,21 @@ fn run_firings<P: Plant>(
     firings: &[Firing],
     places: &[usize],
 ) -> io::Result<()> {
-    for firing in firings {
-        print_firing(rt, *firing)?;
-        let answer = fire(plant, *firing);
-        print_answer(rt, answer)?;
+    run_shown(rt, plant, firings, |plant| {
         print!(rt; ";")?;
         for p in places {
             print!(rt; " {}", plant.free(*p))?;
         }
-        println!(rt; "")?;
-    }
-    Ok(())
+        println!(rt; "")
+    })
 }
 
 fn try_monitor<P: Plant>(rt: &HostRuntime, monitor: &mut Monitor<P>) -> io::Result<()> {
-    set_monitor(rt, monitor, &typed(&[-1], 0))?;
-    println!(rt; "")?;
-    set_monitor(rt, monitor, &typed(&[100], 0))?;
-    println!(rt; "")
+    for weight in [-1, 100] {
+        set_monitor(rt, monitor, &typed(&[weight], 0))?;
+        println!(rt; "")?;
+    }
+    Ok(())
 }
 
 fn try_board<P: Plant>(rt: &HostRuntime, board: &mut Board<P>) -> io::Result<()> {
@@ -77,9 +54,9 @@ fn try_board<P: Plant>(rt: &HostRuntime, board: &mut Board<P>) -> io::Result<()>
 
 // A board over a monitor that is shut, and calls through both.
 fn run_shut_monitor<P: Plant + Drop>(rt: &HostRuntime, open: P) -> io::Result<()> {
-    let mut shut = put_monitor(rt, open)?;
+    let mut shut = put(rt, "monitor", Monitor::new(open))?;
     try_monitor(rt, &mut shut)?;
-    let mut top = put_board(rt, shut)?;
+    let mut top = put(rt, "board", Board::new(shut))?;
     try_board(rt, &mut top)?;
     let firings = [
         Begin(0),
@@ -98,7 +75,7 @@ fn run_shut_monitor<P: Plant + Drop>(rt: &HostRuntime, open: P) -> io::Result<()
 
 // A monitor over 63 places is not shut, one over 64 is.
 fn run_table<P: Plant + Drop>(rt: &HostRuntime, boards: Board<P>) -> io::Result<()> {
-    let mut open = put_monitor(rt, boards)?;
+    let mut open = put(rt, "monitor", Monitor::new(boards))?;
     set_monitor(rt, &mut open, &typed(&[-1], -3))?;
     println!(rt; "")?;
     run_shut_monitor(rt, open)
@@ -106,9 +83,9 @@ fn run_table<P: Plant + Drop>(rt: &HostRuntime, boards: Board<P>) -> io::Result<
 
 // A monitor over a board that is shut, and calls through both.
 fn run_shut_board<P: Plant + Drop>(rt: &HostRuntime, open: P) -> io::Result<()> {
-    let mut shut = put_board(rt, open)?;
+    let mut shut = put(rt, "board", Board::new(open))?;
     try_board(rt, &mut shut)?;
-    let mut top = put_monitor(rt, shut)?;
+    let mut top = put(rt, "monitor", Monitor::new(shut))?;
     try_monitor(rt, &mut top)?;
     let firings = [Begin(0), Finish(1), Finish(1)];
     run_firings(rt, &mut top, &firings, &[0, 1, 2, 3, 63])
@@ -124,41 +101,36 @@ fn run_bank<P: Plant + Drop>(rt: &HostRuntime, mut boards: Board<P>) -> io::Resu
 // A board over 53 places is shut; a monitor over it is not, and its layer is the one above the highest that has a place.
 fn run_line<P: Plant + Drop>(rt: &HostRuntime, mut boards: Board<P>) -> io::Result<()> {
     try_board(rt, &mut boards)?;
-    let mut top = put_monitor(rt, boards)?;
+    let mut top = put(rt, "monitor", Monitor::new(boards))?;
     set_monitor(rt, &mut top, &typed(&[0, 1], 0))?;
     println!(rt; "")?;
     let firings = [Begin(1), Begin(0), Begin(2), Finish(2), Begin(1), Finish(1)];
     run_firings(rt, &mut top, &firings, &[0, 1, 2, 3, 4, 53])
 }
 
-// The case over one more board.
-fn run_case<P: Plant + Drop>(rt: &HostRuntime, four: P, case: Case) -> io::Result<()> {
-    let boards = put_board(rt, four)?;
-    match case {
-        Case::OnTable => run_table(rt, boards),
-        Case::OnBank => run_bank(rt, boards),
-        Case::OnLine => run_line(rt, boards),
-    }
-}
-
-// The case over three more boards. A function for every few boards keeps the types that one of them names short.
-fn run_over_two<P: Plant + Drop>(rt: &HostRuntime, two: P, case: Case) -> io::Result<()> {
-    let four = put_two(rt, two)?;
-    run_case(rt, four, case)
-}
-
-// The case over five boards on the plant.
-fn run_over<P: Plant + Drop>(rt: &HostRuntime, plant: P, case: Case) -> io::Result<()> {
-    print_places(rt, "plant", &plant)?;
+// Four boards on the plant. A function for every two boards keeps the types that one of them names short.
+fn put_four<P: Plant + Drop>(
+    rt: &HostRuntime,
+    plant: P,
+) -> io::Result<Board<Board<Board<Board<P>>>>> {
     let two = put_two(rt, plant)?;
-    run_over_two(rt, two, case)
+    put_two(rt, two)
+}
+
+type Five<P> = Board<Board<Board<Board<Board<P>>>>>;
+
+// Five boards on the plant.
+fn put_five<P: Plant + Drop>(rt: &HostRuntime, plant: P) -> io::Result<Five<P>> {
+    let plant = put(rt, "plant", plant)?;
+    let four = put_four(rt, plant)?;
+    put(rt, "board", Board::new(four))
 }
 
 pub fn run(rt: &HostRuntime) -> io::Result<()> {
     println!(rt; "layers over a table of 3 places")?;
-    run_over(rt, make_table(rt, "n1.net")?, Case::OnTable)?;
+    run_table(rt, put_five(rt, make_table(rt, "n1.net")?)?)?;
     println!(rt; "layers over a bank of 4 places")?;
-    run_over(rt, make_bank(rt, "machine.net")?, Case::OnBank)?;
+    run_bank(rt, put_five(rt, make_bank(rt, "machine.net")?)?)?;
     println!(rt; "layers over a line of 5 places")?;
-    run_over(rt, make_line(rt, "five.net")?, Case::OnLine)
+    run_line(rt, put_five(rt, make_line(rt, "five.net")?)?)
 }

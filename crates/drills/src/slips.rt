@@ -1,105 +1,110 @@
 // Drivers, who hold a slip for each grant until they commit or cancel it.
-use crate::orders::{ZONE, open_zone};
-use crate::show::{print_answer, print_ledger};
+use crate::order::Order::Report;
+use crate::order::run_orders;
+use crate::orders::{SHOWN, Zone, open_zone};
+use crate::show::{Told, print_ledger};
 use ledger::ledger::Ledger;
 use ledger::slip::Slip;
 use model::fault::Fault;
 use plant::plant::Plant;
 use std::io;
 
-// How a driver ends.
-#[derive(Clone, Copy)]
-enum End {
-    Commit,
-    Cancel,
-    Settle(bool),
-}
-
-// How the grant of the slip ends before the driver gives the slip back.
-#[derive(Clone, Copy)]
-enum Before {
-    Nothing,
-    Committed,
-    Cancelled,
-}
-
-fn print_end(rt: &HostRuntime, end: End) -> io::Result<()> {
-    match end {
-        End::Commit => print!(rt; "commit slip: "),
-        End::Cancel => print!(rt; "cancel slip: "),
-        End::Settle(made) => print!(rt; "settle slip, made {made}: "),
-    }
-}
-
-fn give_back<P: Plant>(ledger: &mut Ledger<P>, slip: Slip, end: End) -> Result<(), Fault> {
-    match end {
-        End::Commit => ledger.commit_slip(slip),
-        End::Cancel => ledger.cancel_slip(slip),
-        End::Settle(made) => ledger.settle(slip, made),
-    }
-}
-
 fn print_slip<P: Plant>(rt: &HostRuntime, ledger: &Ledger<P>, t: usize) -> io::Result<()> {
     print!(rt; "a slip for {t}")?;
-    print_ledger(rt, ledger, ZONE)
+    print_ledger(rt, ledger, SHOWN)
 }
 
-// Ends a grant of the move by its number, so that a slip for it is worth nothing.
-fn end_before<P: Plant>(
+// What came of ending the grant by its number, if it was ended so.
+fn print_before<P: Plant>(
     rt: &HostRuntime,
-    ledger: &mut Ledger<P>,
-    t: usize,
-    before: Before,
+    ledger: &Ledger<P>,
+    answer: Option<Result<(), Fault>>,
 ) -> io::Result<()> {
-    let answer = match before {
-        Before::Nothing => return Ok(()),
-        Before::Committed => ledger.commit(t),
-        Before::Cancelled => ledger.cancel(t),
+    let Some(answer) = answer else {
+        return Ok(());
     };
-    print!(rt; "ended before: ")?;
-    print_answer(rt, answer)?;
-    print_ledger(rt, ledger, ZONE)
+    print!(rt; "ended before: {}", Told(answer))?;
+    print_ledger(rt, ledger, SHOWN)
 }
 
-// A driver from claim to end. The slip is given back whether or not there was anywhere to print.
-fn drive<P: Plant>(
+// For a grant that is not ended before its slip is given back.
+fn nothing(_: &mut Zone, _: usize) -> Option<Result<(), Fault>> {
+    None
+}
+
+// A driver from claim to end. What `before` does ends the grant by its number, so that the slip is worth nothing. Then `end`, which is
+// printed by its name, takes the slip back, whether or not there was anywhere to print.
+// Kept: for this ledger alone, since `rt check` cannot state a bound on calls of `&mut Ledger<P>` for a parameter `P`.
+fn drive<B, E>(
     rt: &HostRuntime,
-    ledger: &mut Ledger<P>,
+    zone: &mut Zone,
     t: usize,
-    before: Before,
-    end: End,
-) -> io::Result<()> {
+    before: B,
+    name: &str,
+    end: E,
+) -> io::Result<()>
+where
+    B: FnOnce(&mut Zone, usize) -> Option<Result<(), Fault>>,
+    E: FnOnce(&mut Zone, Slip) -> Result<(), Fault>,
+    requires before { B.IsAlwaysCallable before }
+    requires end { E.IsAlwaysCallable end }
+{
     print!(rt; "claim {t}: ")?;
-    match ledger.claim(t) {
+    match zone.claim(t) {
         Ok(slip) => {
             let (which, slip) = slip.which();
-            let printed = print_slip(rt, ledger, which);
-            let ended = end_before(rt, ledger, which, before);
-            let answer = give_back(ledger, slip, end);
+            let printed = print_slip(rt, zone, which);
+            let ended = before(zone, which);
+            let told = print_before(rt, zone, ended);
+            let answer = end(zone, slip);
             printed?;
-            ended?;
-            print_end(rt, end)?;
-            print_answer(rt, answer)?;
+            told?;
+            print!(rt; "{name}: {}", Told(answer))?;
         }
-        Err(fault) => print_answer(rt, Err(fault))?,
+        Err(fault) => print!(rt; "{}", Told(Err(fault)))?,
     }
-    print_ledger(rt, ledger, ZONE)
+    print_ledger(rt, zone, SHOWN)
 }
 
 pub fn run(rt: &HostRuntime) -> io::Result<()> {
     println!(rt; "slips")?;
-    let mut ledger = open_zone(rt)?;
-    drive(rt, &mut ledger, 0, Before::Nothing, End::Commit)?;
-    drive(rt, &mut ledger, 0, Before::Nothing, End::Cancel)?;
-    drive(rt, &mut ledger, 0, Before::Nothing, End::Settle(true))?;
+    let mut zone = open_zone(rt)?;
+    drive(rt, &mut zone, 0, nothing, "commit slip", Zone::commit_slip)?;
+    drive(rt, &mut zone, 0, nothing, "cancel slip", Zone::cancel_slip)?;
+    drive(
+        rt,
+        &mut zone,
+        0,
+        nothing,
+        "settle slip, made true",
+        |zone, slip| zone.settle(slip, true),
+    )?;
     for t in [0, 2, 1, 3] {
-        drive(rt, &mut ledger, t, Before::Nothing, End::Commit)?;
+        drive(rt, &mut zone, t, nothing, "commit slip", Zone::commit_slip)?;
     }
-    print!(rt; "report 1: ")?;
-    let answer = ledger.report(1);
-    print_answer(rt, answer)?;
-    print_ledger(rt, &ledger, ZONE)?;
-    drive(rt, &mut ledger, 2, Before::Nothing, End::Settle(false))?;
-    drive(rt, &mut ledger, 2, Before::Cancelled, End::Commit)?;
-    drive(rt, &mut ledger, 2, Before::Committed, End::Cancel)
+    run_orders(rt, &mut zone, &[Report(1)], SHOWN)?;
+    drive(
+        rt,
+        &mut zone,
+        2,
+        nothing,
+        "settle slip, made false",
+        |zone, slip| zone.settle(slip, false),
+    )?;
+    drive(
+        rt,
+        &mut zone,
+        2,
+        |zone, t| Some(zone.cancel(t)),
+        "commit slip",
+        Zone::commit_slip,
+    )?;
+    drive(
+        rt,
+        &mut zone,
+        2,
+        |zone, t| Some(zone.commit(t)),
+        "cancel slip",
+        Zone::cancel_slip,
+    )
 }

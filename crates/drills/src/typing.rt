@@ -1,14 +1,11 @@
 // Typed rules, written short.
-use model::sizes::MOST_PLACES;
 use rules::typed::TypedRule;
+use std::array;
 
 // The rule that gives the first places these weights, and 0 to the others.
 pub fn typed(front: &[i32], bound: i32) -> TypedRule {
-    let mut weights = [0; MOST_PLACES];
-    for (p, weight) in front.iter().enumerate() {
-        if p < MOST_PLACES {
-            weights[p] = *weight;
-        }
+    TypedRule {
+        weights: array::from_fn(|p| front.get(p).copied().unwrap_or(0)),
+        bound,
     }
-    TypedRule { weights, bound }
 }

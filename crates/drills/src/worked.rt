@@ -3,7 +3,7 @@ use crate::firing::Firing::Begin;
 use crate::firing::run_firings;
 use crate::nets::{make_line, make_table};
 use crate::setting::{set_monitor, set_row};
-use crate::show::{print_answer, print_rule, print_tokens};
+use crate::show::{Told, Written, print_tokens};
 use crate::typing::typed;
 use layers::board::Board;
 use layers::monitor::Monitor;
@@ -36,14 +36,15 @@ fn run_admissions(rt: &HostRuntime) -> io::Result<()> {
     let mut ledger = Ledger::new(Board::new(make_table(rt, "n1.net")?));
     for (r, bound) in [(0, -4), (0, -3), (0, -3), (12, -3)] {
         let rule = typed(&[-1], bound);
-        print!(rt; "admit {r}, ")?;
-        print_rule(rt, &rule)?;
-        print!(rt; ": ")?;
-        print_answer(rt, ledger.may_admit(r, &rule))?;
-        print!(rt; ", ")?;
+        let asked = ledger.may_admit(r, &rule);
         let answer = ledger.admit(r, &rule);
-        print_answer(rt, answer)?;
-        println!(rt; "; free {}", ledger.free(3))?;
+        let free = ledger.free(3);
+        println!(rt;
+            "admit {r}, {}: {}, {}; free {free}",
+            Written(&rule),
+            Told(asked),
+            Told(answer)
+        )?;
     }
     Ok(())
 }

@@ -1,0 +1,62 @@
+// Orders to a ledger on any plant: its calls that take a move.
+use crate::show::{Shown, Told, print_ledger};
+use ledger::ledger::Ledger;
+use model::fault::Fault;
+use plant::plant::Plant;
+use std::{fmt, io};
+
+#[derive(Clone, Copy)]
+pub enum Order {
+    Grant(usize),
+    Commit(usize),
+    Cancel(usize),
+    Report(usize),
+}
+
+impl Order {
+    // What the ledger says that it would answer.
+    pub fn ask<P: Plant>(self, ledger: &Ledger<P>) -> Result<(), Fault> {
+        match self {
+            Order::Grant(t) => ledger.may_grant(t),
+            Order::Commit(t) => ledger.may_commit(t),
+            Order::Cancel(t) => ledger.may_cancel(t),
+            Order::Report(t) => ledger.may_report(t),
+        }
+    }
+
+    // What the ledger answers.
+    pub fn make<P: Plant>(self, ledger: &mut Ledger<P>) -> Result<(), Fault> {
+        match self {
+            Order::Grant(t) => ledger.grant(t),
+            Order::Commit(t) => ledger.commit(t),
+            Order::Cancel(t) => ledger.cancel(t),
+            Order::Report(t) => ledger.report(t),
+        }
+    }
+}
+
+impl fmt::Display for Order {
+    fn fmt<W: fmt::Write>(&self, f: &mut fmt::Formatter<W>) -> fmt::Result {
+        match self {
+            Order::Grant(t) => write!(f, "grant {t}"),
+            Order::Commit(t) => write!(f, "commit {t}"),
+            Order::Cancel(t) => write!(f, "cancel {t}"),
+            Order::Report(t) => write!(f, "report {t}"),
+        }
+    }
+}
+
+// Each order with its answer and the ledger after it.
+pub fn run_orders<P: Plant>(
+    rt: &HostRuntime,
+    ledger: &mut Ledger<P>,
+    orders: &[Order],
+    shown: Shown,
+) -> io::Result<()> {
+    for order in orders {
+        let answer = order.make(ledger);
+        print!(rt; "{order}: {}", Told(answer))?;
+        print_ledger(rt, ledger, shown)?;
+    }
+    Ok(())
+}
