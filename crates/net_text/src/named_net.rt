@@ -1,5 +1,5 @@
 // A net with its text, and the names of its places and moves as parts of the text.
-ghost use Rattle.std.specs.Prelude.{◌≡◌, ◌<◌, map, length, slice_get, IfSome};
+ghost use Rattle.std.specs.Prelude.{◌≡◌, ◌^◌, ◌<◌, map, length, slice_get, IfSome};
 ghost use Rattle.std.specs.Option.{option_map};
 ghost use Rattle.formats.specs.Words.{is_new};
 ghost use Rattle.formats.specs.NetText.{names, place_names, move_names};
@@ -35,7 +35,8 @@ impl<'a> Model for NamedNet<'a> {
 impl<'a> NamedNet<'a> {
     // How many places there are.
     pub fn place_count(&self) -> usize
-        ensures { result ≡ length self.now.places }
+        ensures value { result ≡ length self.now.places }
+        ensures small { result < 2 ^ 63 }
     {
         self.net.places.len()
     }

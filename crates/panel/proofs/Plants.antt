@@ -12,7 +12,6 @@ use Rattle.net_text.specs.Nets.{place_of, move_of, arc_of, net_of, tokens_at, li
 use Rattle.net_text.specs.Nets as read
 use Rattle.table.specs.Tables.{table_net}
 use Rattle.table.specs.Made as tables
-use Rattle.table.specs.declared.side.Side.TheVariants.{Take, Give}
 use Rattle.bank.specs.Banks.{bank_net}
 use Rattle.line.specs.Lines.{line_net}
 use Rattle.line.specs.Making as lines
@@ -54,7 +53,7 @@ module _ (bs : List ℕ) (n : NetText) where
 
   pub table_said : n.kind ≡ Net → tables.text_net n ≡ plant_net (net_of bs n)
   table_said e =
-      (λ i. table_net ((n.places.ok.0 ∙ places_said) i) ((n.moves.ok.0 ∙ moves_said) i) (letters_said i) (arcs_said (tables.amount_of Take) (λ (a : said.Arc). a.take) (λ a. refl) i) (arcs_said (tables.amount_of Give) (λ (a : said.Arc). a.give) (λ a. refl) i) (limits_said i))
+      (λ i. table_net ((n.places.ok.0 ∙ places_said) i) ((n.moves.ok.0 ∙ moves_said) i) (letters_said i) (arcs_said (λ (a : Arc). a.take) (λ (a : said.Arc). a.take) (λ a. refl) i) (arcs_said (λ (a : Arc). a.give) (λ (a : said.Arc). a.give) (λ a. refl) i) (limits_said i))
       ∙ sym (ap (λ k. net_by k (net_of bs n)) e)
 
   pub bank_said : n.kind ≡ Bank → bank_net (length (vec_items n.places)) (letter_at (vec_items n.moves)) ≡ plant_net (net_of bs n)

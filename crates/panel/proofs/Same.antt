@@ -4,9 +4,7 @@ use Rattle.std.proofs.lemmas.Bool.{cases_lt}
 use Rattle.std.proofs.lemmas.List.{get_or_past, get_or-replicate, length-replicate}
 use Rattle.formats.specs.RulesText as said
 use Rattle.texts.specs.Spans.{part_of}
-use Rattle.net_text.specs.declared.net.NetText.{NetText}
-use Rattle.net_text.specs.Nets.{net_of}
-use Rattle.net_text.proofs.Names.{places_of, moves_of}
+use Rattle.formats.specs.NetText.{NetText, place_names, move_names}
 use Rattle.rules_text.specs.declared.rule.RuleLine.{RuleLine}
 use Rattle.rules_text.specs.declared.rule.RulesText.{RulesText}
 use Rattle.rules_text.specs.Rules.{LineSays, EachSays, RulesSay, no_rule}
@@ -38,14 +36,14 @@ module _ (bs : List ℕ) where
   each_same (l ∷ ls) (r ∷ rs) s zero = rule_same l r s.0
   each_same (l ∷ ls) (r ∷ rs) s (suc i) = each_same ls rs s.1 i
 
-pub cell_same : (nbs : List ℕ) (n : NetText) (bs : List ℕ) (r : RulesText) (y : said.RulesText) → RulesSay bs r y → cell_read nbs n bs r ≡ cell_of (net_of nbs n) y
-cell_same nbs n bs r y s = λ i. record {
-  places = sym (places_of nbs n) i;
-  moves = sym (moves_of nbs n) i;
+pub cell_same : (n : NetText) (bs : List ℕ) (r : RulesText) (y : said.RulesText) → RulesSay bs r y → cell_read n bs r ≡ cell_of n y
+cell_same n bs r y s = λ i. record {
+  places = place_names n;
+  moves = move_names n;
   fixed = s.fixed.name i;
   rules = names_same bs (vec_items r.others) y.others s.others i;
-  net = plant_net (net_of nbs n);
-  free = free_of (net_of nbs n);
+  net = plant_net n;
+  free = free_of n;
   typed_fixed = rule_same bs r.fixed y.fixed s.fixed i;
   typed = λ k. each_same bs (vec_items r.others) y.others s.others k i;
 }

@@ -45,7 +45,7 @@ fn with_rule(said: &Said, name: &[u8]) -> Result<Order, Refusal>
     ensures { order_said result ≡ Some (with_rule (cell_said said.now) name.now) }
 {
     let r = said.rule_named(name).ok_or(Refusal::NameUnknown)?;
-    let line = said.rules.others.get(r).ok_or(Refusal::NameUnknown)?;
+    let line = said.rules.rules.others.get(r).ok_or(Refusal::NameUnknown)?;
     Ok(Order::Make(Call::Admit(r, typed(line))))
 }
 

@@ -24,9 +24,10 @@ use formats::kind::Kind;
 use layers::pile::build;
 use ledger::ledger::Ledger;
 use model::refusal::Refusal;
-use net_text::net::NetText;
+use net_text::named_net::NamedNet;
 use net_text::reader::read_net;
 use plant::plant::Plant;
+use rules_text::names::NamedRules;
 use rules_text::reader::read_rules;
 use std::alloc::{AllocError, Global};
 use texts::at::At;
@@ -65,7 +66,7 @@ fn run_checked<P: Plant + Drop>(
     ensures printed { OnOk result (out.new.items ≡ out.old.items ++ ran (cell_said said.now) orders.now) }
     ensures built { Ok tt ≡ monitor_answer (start_monitor (cell_said said.now)) (cell_said said.now).typed_fixed → BuiltCell (cell_said said.now) }
 {
-    match build(plant, &typed(&said.rules.fixed)) {
+    match build(plant, &typed(&said.rules.rules.fixed)) {
         Ok(pile) => {
             let mut ledger = Ledger::new(pile);
             obey_all(out, said, &mut ledger, orders)
@@ -111,11 +112,12 @@ fn run_made<P: Plant + Drop>(
 
 // The orders on the plant that the net text tells of, by its kind.
 fn run_net(out: &mut Vec<u8>, said: &Said, orders: &[u8]) -> Result<(), AllocError>
-    requires { Proper net_meaning (net_of said.now.net_text.now said.now.net.now) }
+    requires { Proper net_meaning said.now.net.now }
     ensures printed { OnOk result (out.new.items ≡ out.old.items ++ ran (cell_said said.now) orders.now) }
     ensures built { Started (cell_said said.now) orders.now }
 {
     let net = said.net;
+    let net = net.net;
     match net.kind {
         Kind::Net => run_made(out, said, table::make::make(net), orders),
         Kind::Bank => run_made(out, said, bank::making::make(net), orders),
@@ -124,26 +126,24 @@ fn run_net(out: &mut Vec<u8>, said: &Said, orders: &[u8]) -> Result<(), AllocErr
 }
 
 // The rules and the orders, on a net that was read.
-fn run_rules(
+fn run_rules<'a>(
     alloc: Global,
     out: &mut Vec<u8>,
-    net: &NetText,
-    net_text: &[u8],
-    rules_text: &[u8],
+    net: &'a NamedNet<'a>,
+    text: &'a [u8],
     orders: &[u8],
 ) -> Result<(), AllocError>
-    requires { Proper net_meaning (net_of net_text.now net.now) }
-    ensures printed { OnOk result (out.new.items ≡ out.old.items ++ by_rules (net_of net_text.now net.now) (read_rules (names (net_of net_text.now net.now)) (place_names (net_of net_text.now net.now)) rules_text.now) orders.now) }
-    ensures built { OnOk result ((y : RulesSaid) → read_rules (names (net_of net_text.now net.now)) (place_names (net_of net_text.now net.now)) rules_text.now ≡ Ok y → Started (cell_of (net_of net_text.now net.now) y) orders.now) }
+    requires { Proper net_meaning net.now }
+    ensures printed { OnOk result (out.new.items ≡ out.old.items ++ by_rules net.now (read_rules (names net.now) (place_names net.now) text.now) orders.now) }
+    ensures built { OnOk result ((y : RulesSaid) → read_rules (names net.now) (place_names net.now) text.now ≡ Ok y → Started (cell_of net.now y) orders.now) }
 {
-    match read_rules(alloc, net, net_text, rules_text) {
+    match read_rules(alloc, net, text) {
         Ok(rules) => {
-            let said = Said {
-                net,
-                net_text,
+            let rules = NamedRules {
                 rules: &rules,
-                rules_text,
+                text,
             };
+            let said = Said { net, rules };
             run_net(out, &said, orders)
         }
         Err(stop) => put_stop(out, b"rules", stop),
@@ -158,7 +158,13 @@ pub fn panel(alloc: Global, net: &[u8], rules: &[u8], orders: &[u8]) -> Result<V
 {
     let mut out = Vec::new(alloc);
     match read_net(alloc, net) {
-        Ok(read) => run_rules(alloc, &mut out, &read, net, rules, orders)?,
+        Ok(read) => {
+            let read = NamedNet {
+                net: &read,
+                text: net,
+            };
+            run_rules(alloc, &mut out, &read, rules, orders)?
+        }
         Err(stop) => put_stop(&mut out, b"net", stop)?,
     }
     Ok(out)

@@ -1,24 +1,21 @@
 // The texts of a cell as they were read, and the names in them.
-ghost use Rattle.std.specs.Prelude.{◌≡◌, length};
+ghost use Rattle.std.specs.Prelude.{◌≡◌, ◌^◌, ◌<◌, length};
 ghost use Rattle.std.specs.Str.{bytes_eq};
 ghost use Rattle.texts.specs.Spans.{found};
 ghost use Rattle.panel.specs.Cells.{pile_names};
 ghost use Rattle.panel.specs.Orders.{name_at};
 ghost use Rattle.panel.specs.Said.{cell_said};
 
-use net_text::net::NetText;
-use rules_text::names;
-use rules_text::rule::RulesText;
+use net_text::named_net::NamedNet;
+use rules_text::names::NamedRules;
 use texts::names::{find, part};
 use texts::words::same;
 
-// The net and the rules, with the texts that their names are parts of.
+// The net and the rules, each with the text that its names are parts of.
 #[derive(Clone, Copy)]
 pub struct Said<'a> {
-    pub net: &'a NetText,
-    pub net_text: &'a [u8],
-    pub rules: &'a RulesText,
-    pub rules_text: &'a [u8],
+    pub net: &'a NamedNet<'a>,
+    pub rules: NamedRules<'a>,
 }
 
 // What is printed where there is no name.
@@ -29,35 +26,36 @@ impl<'a> Said<'a> {
     pub(crate) fn move_named(&self, name: &[u8]) -> Option<usize>
         ensures { result ≡ found (cell_said self.now).moves name.now }
     {
-        names::find_move(self.net, self.net_text, name)
+        self.net.find_move(name)
     }
 
     // The rule line of that name.
     pub(crate) fn rule_named(&self, name: &[u8]) -> Option<usize>
         ensures { result ≡ found (cell_said self.now).rules name.now }
     {
-        find(&self.rules.others, self.rules_text, name)
+        find(&self.rules.rules.others, self.rules.text, name)
     }
 
     // The ground place of that name.
     fn ground_named(&self, name: &[u8]) -> Option<usize>
         ensures { result ≡ found (cell_said self.now).places name.now }
     {
-        names::find_place(self.net, self.net_text, name)
+        self.net.find_place(name)
     }
 
     // How many ground places there are.
     fn ground_count(&self) -> usize
-        ensures { result ≡ length (cell_said self.now).places }
+        ensures value { result ≡ length (cell_said self.now).places }
+        ensures small { result < 2 ^ 63 }
     {
-        self.net.places.len()
+        self.net.place_count()
     }
 
     // Whether the fixed rule has that name.
     fn names_fixed(&self, name: &[u8]) -> bool
         ensures { result ≡ bytes_eq (cell_said self.now).fixed name.now }
     {
-        same(part(self.rules_text, self.rules.fixed.name), name)
+        same(part(self.rules.text, self.rules.rules.fixed.name), name)
     }
 
     // The place of the pile that has that name: a ground place, or the place of a rule.
@@ -78,15 +76,13 @@ impl<'a> Said<'a> {
     pub(crate) fn place_name(&self, p: usize) -> &'a [u8]
         ensures { result.now ≡ name_at (pile_names (cell_said self.now)) p }
     {
-        names::place_name(self.net, self.net_text, self.rules, self.rules_text, p).unwrap_or(
-            NO_NAME,
-        )
+        self.rules.place_name(self.net, p).unwrap_or(NO_NAME)
     }
 
     // The name of a move.
     pub(crate) fn move_name(&self, t: usize) -> &'a [u8]
         ensures { result.now ≡ name_at (cell_said self.now).moves t }
     {
-        names::move_name(self.net, self.net_text, t).unwrap_or(NO_NAME)
+        self.net.move_name(t).unwrap_or(NO_NAME)
     }
 }

@@ -3,7 +3,6 @@ use Rattle.std.specs.Prelude.{OnOk}
 use Rattle.layers.specs.Piles.{stack_pile}
 use Rattle.rules.specs.Rules.{rule_of}
 use Rattle.model.proofs.Checks.{err_not_ok}
-use Rattle.net_text.specs.Nets.{net_of}
 use Rattle.panel.specs.Cells.{Cell}
 use Rattle.panel.specs.Said.{cell_said}
 use Rattle.panel.proofs.Started.{plant_bare, refused_set, built_cell, ran_unset, ran_set}
@@ -33,4 +32,4 @@ pub returns-in-Ok-clause-built : goal.returns-in-Ok-clause-built
 returns-in-Ok-clause-built g c = λ set.
     let x : Cell = cell_said c.args.said.now in
     built_cell x (g.P.Net.net c.args.plant) (g.P.Plant.tokens c.args.plant) (rule_of c.typed.result) c.requires.net c.requires.tokens c.typed.ensures
-    (stack_pile g.P.Net.net g.P.Plant.tokens c.in-Ok.pile) c.in-Ok.ensures.pile (plant_bare (net_of c.args.said.now.net_text.now c.args.said.now.net.now))
+    (stack_pile g.P.Net.net g.P.Plant.tokens c.in-Ok.pile) c.in-Ok.ensures.pile (plant_bare c.args.said.now.net.now)
