@@ -1,11 +1,9 @@
 use Rattle.std.proofs.Common.{◌≡◌, ℕ, ◌≤◌, List, ◌++◌, length, vec_items, Result, sym, ap, ◌∙◌, subst, arith}
 use Rattle.std.specs.Prelude.{OnOk}
-use Rattle.std.proofs.lemmas.List.{length-map}
 use Rattle.model.specs.Sizes.{most_places}
 use Rattle.formats.specs.declared.fault.TextFault.{TextFault}
 use Rattle.formats.specs.NetText.{NetText}
 use Rattle.formats.specs.RulesText.{RulesText}
-use Rattle.net_text.specs.Nets.{place_of, net_of}
 use Rattle.panel.specs.Cells.{Cell, cell_of}
 use Rattle.panel.specs.Orders.{Started, ran}
 use Rattle.panel.specs.Run.{by_rules}
