@@ -15,6 +15,7 @@ pub fn front<T, U: Copy, const N: usize, F: Fn(&T) -> U>(items: &[T], spare: U, 
             ensures here { (d : T) → p < length items.entry.now → FnReturnsAt F.Fn value (slice_index_or items.entry.now p d) result }
             ensures beyond { length items.entry.now ≤ p → result ≡ spare }
         {
+            // Kept: with `map_or(spare, |item| value(item))` search found no proof of what this closure ensures.
             match items.get(p) {
                 Some(item) => value(item),
                 None => spare

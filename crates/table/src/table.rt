@@ -13,6 +13,7 @@ pub struct Table {
     pub(crate) controllable: [bool; MOST_MOVES],
     // the arc of each place, move by move
     pub(crate) arcs: [[Cell; MOST_PLACES]; MOST_MOVES],
+    // Kept: a call makes all tokens anew and leaves the limits, which one array of both would copy in each call.
     pub(crate) limits: [u32; MOST_PLACES],
     pub(crate) tokens: [u32; MOST_PLACES],
     ghost some_places: { 1 ≤ places },
