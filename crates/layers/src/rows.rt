@@ -76,7 +76,7 @@ pub trait Rows {
     }
 
     // Takes from each row what the move `t` takes there.
-    // Kept: this loop and the next two, since a closure that reads the rows cannot be passed to a call that changes them.
+    // Kept: this loop and the next two, each of one call. A shared loop would hand the rows, of which some are changed, to a closure.
     fn begin(&mut self, t: usize)
         requires { (r : ℕ) → r < row_count top → (rows self.old r).take t ≤ (rows self.old r).free }
         ensures { rows self.new ≡ (λ r. row_with (rows self.old r) ((rows self.old r).free - (rows self.old r).take t)) }
