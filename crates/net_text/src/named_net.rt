@@ -16,14 +16,15 @@ pub fn name_at<'a, N: Named>(items: &[N], text: &'a [u8], i: usize) -> Option<&'
     items.get(i).map(|item| part(text, item.name()))
 }
 
-// A net as it was read, with the text that its names are parts of. A contract sees the net that they say.
+// A net as it was read, with the text that its names are parts of; a name lives as long as the text. A contract sees the net that
+// they say.
 #[derive(Drop)]
-pub struct NamedNet<'a> {
-    pub net: &'a NetText,
+pub struct NamedNet<'n, 'a> {
+    pub net: &'n NetText,
     pub text: &'a [u8],
 }
 
-impl<'a> Model for NamedNet<'a> {
+impl<'n, 'a> Model for NamedNet<'n, 'a> {
     ghost use Rattle.formats.specs.NetText.{NetText};
     ghost use Rattle.net_text.specs.Nets.{net_of};
 
@@ -32,7 +33,7 @@ impl<'a> Model for NamedNet<'a> {
     ghost view = { λ n. net_of n.text.now n.net.now };
 }
 
-impl<'a> NamedNet<'a> {
+impl<'n, 'a> NamedNet<'n, 'a> {
     // How many places there are.
     pub fn place_count(&self) -> usize
         ensures value { result ≡ length self.now.places }

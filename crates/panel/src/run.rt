@@ -129,7 +129,7 @@ fn run_net(out: &mut Vec<u8>, said: &Said, orders: &[u8]) -> Result<(), AllocErr
 fn run_rules<'a>(
     alloc: Global,
     out: &mut Vec<u8>,
-    net: &'a NamedNet<'a>,
+    net: &'a NamedNet<'a, 'a>,
     text: &'a [u8],
     orders: &[u8],
 ) -> Result<(), AllocError>

@@ -14,8 +14,8 @@ use texts::words::same;
 // The net and the rules, each with the text that its names are parts of.
 #[derive(Clone, Copy)]
 pub struct Said<'a> {
-    pub net: &'a NamedNet<'a>,
-    pub rules: NamedRules<'a>,
+    pub net: &'a NamedNet<'a, 'a>,
+    pub rules: NamedRules<'a, 'a>,
 }
 
 // What is printed where there is no name.

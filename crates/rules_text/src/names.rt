@@ -20,12 +20,12 @@ pub enum Rule {
 
 // Rules as they were read, with the text that their names are parts of.
 #[derive(Clone, Copy)]
-pub struct NamedRules<'a> {
-    pub rules: &'a RulesText,
+pub struct NamedRules<'r, 'a> {
+    pub rules: &'r RulesText,
     pub text: &'a [u8],
 }
 
-impl<'a> NamedRules<'a> {
+impl<'r, 'a> NamedRules<'r, 'a> {
     // The name of the fixed rule.
     fn fixed_name(&self) -> &'a [u8]
         ensures { result.now ≡ part_of self.now.text.now self.now.rules.now.fixed.name }
@@ -46,7 +46,7 @@ impl<'a> NamedRules<'a> {
 
     // The name of the place `p` over the net: a part of the net text for a ground place, of the rules text for a control place. The
     // control places follow the ground places, the fixed rule's first, then those of the rows.
-    pub fn place_name(&self, net: &NamedNet<'a>, p: usize) -> Option<&'a [u8]>
+    pub fn place_name(&self, net: &NamedNet<'_, 'a>, p: usize) -> Option<&'a [u8]>
         ensures { option_map (λ x. x.now) result ≡ slice_get (place_names net.now ++ titles self.now) p }
     {
         let ground = net.place_count();

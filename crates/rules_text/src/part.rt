@@ -41,7 +41,7 @@ pub struct Term {
 // A sum that is read against a net: the field, which stands on the line `at` and starts at `byte`.
 #[derive(Clone, Copy)]
 pub(crate) struct SumReader<'a> {
-    pub net: &'a NamedNet<'a>,
+    pub net: &'a NamedNet<'a, 'a>,
     pub sum: &'a [u8],
     pub at: At,
     pub byte: usize,

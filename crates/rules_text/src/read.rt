@@ -24,7 +24,7 @@ use texts::words::{is_name, number};
 // A rules text that is read against the net that it is for.
 #[derive(Clone, Copy)]
 pub(crate) struct RulesReader<'a> {
-    pub net: &'a NamedNet<'a>,
+    pub net: &'a NamedNet<'a, 'a>,
     pub text: &'a [u8],
     // a weight is kept for each place
     ghost few_places: { length net.now.places ≤ most_places },
