@@ -1,11 +1,13 @@
 -- What begin, finish and back leave in a table.
 use Rattle.std.proofs.Common.{◌≡◌, ℕ, ◌+◌, ◌-◌, ◌<◌, ◌≤◌, cond, ◌&&◌, ltb, List, length, get_or, Ok, sym, ap, ◌∙◌, ⊎_elim, arith}
 use Rattle.std.proofs.lemmas.List.{get_or_past}
-use Rattle.std.proofs.lemmas.Bool.{cases_lt, cond-true, cond-false, lt-ltb, le-ltb, and_left}
+use Rattle.std.proofs.lemmas.Bool.{cases_lt, and_from, cond-true, cond-false, lt-ltb, le-ltb, and_left}
 use Rattle.model.specs.Plant.{Answer, accepted, begin_answer, finish_answer, back_answer}
 use Rattle.model.specs.Sizes.{most_places}
 use Rattle.plant.proofs.Answering.{begins, fits}
 use Rattle.table.specs.declared.table.Table.{Table}
+use Rattle.table.specs.declared.cell.Cell.{Cell}
+use Rattle.table.specs.Cells.{cell}
 use Rattle.table.specs.Tables.{net_of, tokens_of}
 
 inside : (n p v : ℕ) → p < n → cond (ltb p n) v 0 ≡ v
@@ -18,35 +20,53 @@ outside n p v h = cond-false _ v 0 (le-ltb p n h)
 no_arc : (n k p t v : ℕ) → n ≤ p → cond (ltb p n && ltb t k) v 0 ≡ 0
 no_arc n k p t v h = cond-false _ v 0 (and_left _ _ (le-ltb p n h))
 
--- the tokens is that were made by f, where an accepted call a leaves f at each place
-module _ (s : Table) (is : List ℕ) (f : ℕ → ℕ) (made : (p : ℕ) → p < most_places → get_or is p 0 ≡ f p) where
-  pub after : (a : Answer) → Ok tt ≡ a → ((p : ℕ) → s.places ≤ p → f p ≡ 0) → ◌≡◌ {A = ℕ → ℕ} (λ p. cond (ltb p s.places) (get_or is p 0) 0) (λ p. cond (accepted a) (f p) (tokens_of s p))
-  after a ok none = λ i p. (moved p ∙ ap (λ (b : Answer). cond (accepted b) (f p) (tokens_of s p)) ok) i
+-- an arc of a place and a move that are there
+arc_in : (n k p t v : ℕ) → p < n → t < k → cond (ltb p n && ltb t k) v 0 ≡ v
+arc_in n k p t v l m = cond-true _ v 0 (and_from _ _ (lt-ltb p n l) (lt-ltb t k m))
+
+-- the tokens is that were made by f, where an accepted call a leaves g at each place
+module _ (s : Table) (is : List ℕ) (f g : ℕ → ℕ) (made : (p : ℕ) → p < most_places → get_or is p 0 ≡ f p) (same : (p : ℕ) → p < s.places → f p ≡ g p) where
+  pub after : (a : Answer) → Ok tt ≡ a → ((p : ℕ) → s.places ≤ p → g p ≡ 0) → ◌≡◌ {A = ℕ → ℕ} (λ p. cond (ltb p s.places) (get_or is p 0) 0) (λ p. cond (accepted a) (g p) (tokens_of s p))
+  after a ok none = λ i p. (moved p ∙ ap (λ (b : Answer). cond (accepted b) (g p) (tokens_of s p)) ok) i
     where
-      moved : (p : ℕ) → cond (ltb p s.places) (get_or is p 0) 0 ≡ f p
+      moved : (p : ℕ) → cond (ltb p s.places) (get_or is p 0) 0 ≡ g p
       moved p =
           ⊎_elim
-          (λ l. inside s.places p (get_or is p 0) l ∙ made p (omega (arith, s.few_places)))
+          (λ l. inside s.places p (get_or is p 0) l ∙ made p (omega (arith, s.few_places)) ∙ same p l)
           (λ h. outside s.places p (get_or is p 0) h ∙ sym (none p h))
           (cases_lt p s.places)
 
   -- no place holds more than its limit
-  pub still_held : length is ≡ most_places → ((p : ℕ) → f p ≤ (net_of s).limit p) → (p : ℕ) → get_or is p 0 ≤ get_or s.limits p 1
-  still_held long low p =
+  pub still_held : length is ≡ most_places → ((p : ℕ) → g p ≤ (net_of s).limit p) → ((p : ℕ) → s.places ≤ p → f p ≤ get_or s.tokens p 0) → (p : ℕ) → get_or is p 0 ≤ get_or s.limits p 1
+  still_held long low spare p =
       ⊎_elim
-      (λ l. omega (arith, made p l, low p, limit_most p))
+      (λ l. ⊎_elim
+      (λ h. omega (arith, made p l, same p h, low p, inside s.places p (get_or s.limits p 1) h))
+      (λ h. omega (arith, made p l, spare p h, s.held p))
+      (cases_lt p s.places))
       (λ h. omega (arith, get_or_past is p 0 (omega arith)))
       (cases_lt p most_places)
-    where
-      limit_most : (q : ℕ) → (net_of s).limit q ≤ get_or s.limits q 1
-      limit_most q =
-          ⊎_elim
-          (λ l. omega (arith, inside s.places q (get_or s.limits q 1) l))
-          (λ h. omega (arith, outside s.places q (get_or s.limits q 1) h))
-          (cases_lt q s.places)
 
 -- ---- what is left at each place
 module _ (s : Table) (t : ℕ) where
+  abbrev pub have : ℕ → ℕ
+  have p = get_or s.tokens p 0
+
+  abbrev pub took : ℕ → ℕ
+  took p = (cell s.arcs p t).take
+
+  abbrev pub gave : ℕ → ℕ
+  gave p = (cell s.arcs p t).give
+
+  free_in : (p : ℕ) → p < s.places → tokens_of s p ≡ have p
+  free_in p l = inside s.places p _ l
+
+  take_in : t < s.moves → (p : ℕ) → p < s.places → (net_of s).take p t ≡ took p
+  take_in m p l = arc_in s.places s.moves p t _ l m
+
+  give_in : t < s.moves → (p : ℕ) → p < s.places → (net_of s).give p t ≡ gave p
+  give_in m p l = arc_in s.places s.moves p t _ l m
+
   free_none : (p : ℕ) → s.places ≤ p → tokens_of s p ≡ 0
   free_none p h = outside s.places p _ h
 
@@ -56,12 +76,33 @@ module _ (s : Table) (t : ℕ) where
   give_none : (p : ℕ) → s.places ≤ p → (net_of s).give p t ≡ 0
   give_none p h = no_arc s.places s.moves p t _ h
 
+  took_none : (p : ℕ) → s.places ≤ p → took p ≡ 0
+  took_none p h = ap (λ (c : Cell). c.take) (s.spare p t h)
+
+  gave_none : (p : ℕ) → s.places ≤ p → gave p ≡ 0
+  gave_none p h = ap (λ (c : Cell). c.give) (s.spare p t h)
+
   free_most : (p : ℕ) → tokens_of s p ≤ (net_of s).limit p
   free_most p =
       ⊎_elim
-      (λ l. omega (arith, inside s.places p (get_or s.tokens p 0) l, inside s.places p (get_or s.limits p 1) l, s.held p))
+      (λ l. omega (arith, free_in p l, inside s.places p (get_or s.limits p 1) l, s.held p))
       (λ h. omega (arith, free_none p h))
       (cases_lt p s.places)
+
+  module _ (e : Ok tt ≡ begin_answer (net_of s) (tokens_of s) t) where
+    abbrev b : (t < s.moves) × ((p : ℕ) → p < s.places → (net_of s).take p t ≤ tokens_of s p)
+    b = begins (net_of s) (tokens_of s) t e
+
+    pub begin_move : t < s.moves
+    begin_move = b.0
+
+    -- an accepted begin finds at each place what it takes there
+    pub begin_takes : (p : ℕ) → took p ≤ have p
+    begin_takes p =
+        ⊎_elim (λ l. omega (arith, b.1 p l, take_in b.0 p l, free_in p l)) (λ h. omega (arith, took_none p h)) (cases_lt p s.places)
+
+    pub begun_same : (p : ℕ) → p < s.places → have p - took p ≡ tokens_of s p - (net_of s).take p t
+    begun_same p l = omega (arith, take_in b.0 p l, free_in p l)
 
   pub begun_none : (p : ℕ) → s.places ≤ p → tokens_of s p - (net_of s).take p t ≡ 0
   begun_none p h = omega (arith, free_none p h)
@@ -69,27 +110,43 @@ module _ (s : Table) (t : ℕ) where
   pub begun_low : (p : ℕ) → tokens_of s p - (net_of s).take p t ≤ (net_of s).limit p
   begun_low p = omega (arith, free_most p)
 
-  -- an accepted begin finds at each place what it takes there
-  pub begin_takes : Ok tt ≡ begin_answer (net_of s) (tokens_of s) t → (p : ℕ) → (net_of s).take p t ≤ tokens_of s p
-  begin_takes e p =
-      ⊎_elim ((begins (net_of s) (tokens_of s) t e).1 p) (λ h. omega (arith, take_none p h)) (cases_lt p s.places)
+  pub begun_spare : (p : ℕ) → s.places ≤ p → have p - took p ≤ have p
+  begun_spare p h = omega arith
+
+  module _ (e : Ok tt ≡ finish_answer (net_of s) (tokens_of s) t) where
+    abbrev r : (t < s.moves) × ((p : ℕ) → p < s.places → tokens_of s p + (net_of s).give p t ≤ (net_of s).limit p)
+    r = fits (net_of s) (tokens_of s) (λ q. (net_of s).give q t) t e
+
+    pub finish_move : t < s.moves
+    finish_move = r.0
+
+    pub finished_same : (p : ℕ) → p < s.places → have p + gave p ≡ tokens_of s p + (net_of s).give p t
+    finished_same p l = omega (arith, give_in r.0 p l, free_in p l)
+
+    pub finished_low : (p : ℕ) → tokens_of s p + (net_of s).give p t ≤ (net_of s).limit p
+    finished_low p = ⊎_elim (r.1 p) (λ h. omega (arith, free_none p h, give_none p h)) (cases_lt p s.places)
 
   pub finished_none : (p : ℕ) → s.places ≤ p → tokens_of s p + (net_of s).give p t ≡ 0
   finished_none p h = omega (arith, free_none p h, give_none p h)
 
-  pub finished_low : Ok tt ≡ finish_answer (net_of s) (tokens_of s) t → (p : ℕ) → tokens_of s p + (net_of s).give p t ≤ (net_of s).limit p
-  finished_low e p =
-      ⊎_elim
-      ((fits (net_of s) (tokens_of s) (λ q. (net_of s).give q t) t e).1 p)
-      (λ h. omega (arith, finished_none p h))
-      (cases_lt p s.places)
+  pub finished_spare : (p : ℕ) → s.places ≤ p → have p + gave p ≤ have p
+  finished_spare p h = omega (arith, gave_none p h)
+
+  module _ (e : Ok tt ≡ back_answer (net_of s) (tokens_of s) t) where
+    abbrev q : (t < s.moves) × ((p : ℕ) → p < s.places → tokens_of s p + (net_of s).take p t ≤ (net_of s).limit p)
+    q = fits (net_of s) (tokens_of s) (λ q. (net_of s).take q t) t e
+
+    pub back_move : t < s.moves
+    back_move = q.0
+
+    pub gone_back_same : (p : ℕ) → p < s.places → have p + took p ≡ tokens_of s p + (net_of s).take p t
+    gone_back_same p l = omega (arith, take_in q.0 p l, free_in p l)
+
+    pub gone_back_low : (p : ℕ) → tokens_of s p + (net_of s).take p t ≤ (net_of s).limit p
+    gone_back_low p = ⊎_elim (q.1 p) (λ h. omega (arith, free_none p h, take_none p h)) (cases_lt p s.places)
 
   pub gone_back_none : (p : ℕ) → s.places ≤ p → tokens_of s p + (net_of s).take p t ≡ 0
   gone_back_none p h = omega (arith, free_none p h, take_none p h)
 
-  pub gone_back_low : Ok tt ≡ back_answer (net_of s) (tokens_of s) t → (p : ℕ) → tokens_of s p + (net_of s).take p t ≤ (net_of s).limit p
-  gone_back_low e p =
-      ⊎_elim
-      ((fits (net_of s) (tokens_of s) (λ q. (net_of s).take q t) t e).1 p)
-      (λ h. omega (arith, gone_back_none p h))
-      (cases_lt p s.places)
+  pub gone_back_spare : (p : ℕ) → s.places ≤ p → have p + took p ≤ have p
+  gone_back_spare p h = omega (arith, took_none p h)

@@ -1,7 +1,7 @@
 -- A table that is made of a net text is the net that the records say.
 use Rattle.std.proofs.Common.{◌≡◌, ℕ, ◌<◌, ◌≤◌, Bool, true, false, cond, ◌&&◌, eqb, ltb, leb, List, [], ◌∷◌, length, get_or, map, vec_items, vec_len, fold, sym, refl, ap, ◌∙◌, ⊎_elim, arith}
 use Rattle.std.proofs.lemmas.List.{get_or_past, get_or-map, length-map}
-use Rattle.std.proofs.lemmas.Bool.{cases_lt, cond-true, cond-false, lt-ltb, le-ltb, le-leb, leb-true, and_parts, and_from}
+use Rattle.std.proofs.lemmas.Bool.{cases_lt, cond-true, cond-false, lt-ltb, le-ltb, le-leb, leb-true, and_parts, and_from, and_left, ne_eqb}
 use Rattle.formats.specs.Words.{all}
 use Rattle.formats.specs.ReadNet.{is_net}
 use Rattle.net_text.specs.declared.net.Arc.{Arc}
@@ -24,6 +24,7 @@ pub record Fits (x : NetText) : Type 0 where
   pub few_moves : vec_len x.moves ≤ most_moves
   pub filled : all is_filled (vec_items x.places) ≡ true
   pub joining : all (joins most_places most_moves) (vec_items x.arcs) ≡ true
+  pub joining_all : all (joins (vec_len x.places) (vec_len x.moves)) (vec_items x.arcs) ≡ true
 
 joins_more : (n k : ℕ) → n ≤ most_places → k ≤ most_moves → (xs : List Arc) → all (joins n k) xs ≡ true → all (joins most_places most_moves) xs ≡ true
 joins_more n k h m [] e = refl
@@ -51,6 +52,7 @@ fits_parts x e =
       few_moves = leb-true nm most_moves b.1;
       filled = w.0;
       joining = joins_more np nm (leb-true np most_places a.1) (leb-true nm most_moves b.1) (vec_items x.arcs) w.1;
+      joining_all = w.1;
     }
 
 -- ---- arcs: what the cells have is what the arcs say
@@ -70,6 +72,18 @@ taken xs p t = amounts (λ c. c.take) (λ a. a.take) (λ a. refl) p t none xs
 
 pub given : (xs : List Arc) (p t : ℕ) → (cell_of xs p t).give ≡ arc_amount (λ a. a.give) xs p t
 given xs p t = amounts (λ c. c.give) (λ a. a.give) (λ a. refl) p t none xs
+
+-- ---- arcs: none at a spare place
+beyond : (n k p t : ℕ) (v : Cell) → n ≤ p → (xs : List Arc) → all (joins n k) xs ≡ true → fold (put p t) v xs ≡ v
+beyond n k p t v h [] e = refl
+beyond n k p t v h (a ∷ xs) e =
+    let u = and_parts (joins n k a) (all (joins n k) xs) e in
+    let j = joined_parts n k a u.0 in
+    ap (λ (w : Cell). fold (put p t) w xs) (cond-false _ _ _ (and_left _ _ (ne_eqb a.place p (λ q. omega (arith, j.0)))))
+    ∙ beyond n k p t v h xs u.1
+
+pub no_spare : (n k m p t : ℕ) → n ≡ m → n ≤ p → (qs xs : List Arc) → qs ≡ xs → all (joins m k) xs ≡ true → cell_of qs p t ≡ none
+no_spare n k m p t e h qs xs q fits = ap (λ (ys : List Arc). cell_of ys p t) q ∙ beyond m k p t none (omega arith) xs fits
 
 -- ---- places and moves: what is copied from their records
 module _ (ps : List Place) (fits : all is_filled ps ≡ true) (limits : List ℕ) (l : (p : ℕ) → get_or limits p 1 ≡ get_or (map (λ (q : Place). q.limit) ps) p 1) where

@@ -77,19 +77,19 @@ impl Plant for Table {
 
     fn begin(&mut self, t: usize) -> Result<(), Fault> {
         self.may_begin(t)?;
-        self.tokens = array::from_fn(|p| self.free(p) - self.take(p, t));
+        self.tokens = array::from_fn(|p| self.tokens[p] - u32::from(self.arcs[t][p].take));
         Ok(())
     }
 
     fn finish(&mut self, t: usize) -> Result<(), Fault> {
         self.may_finish(t)?;
-        self.tokens = array::from_fn(|p| self.free(p) + self.give(p, t));
+        self.tokens = array::from_fn(|p| self.tokens[p] + u32::from(self.arcs[t][p].give));
         Ok(())
     }
 
     fn back(&mut self, t: usize) -> Result<(), Fault> {
         self.may_back(t)?;
-        self.tokens = array::from_fn(|p| self.free(p) + self.take(p, t));
+        self.tokens = array::from_fn(|p| self.tokens[p] + u32::from(self.arcs[t][p].take));
         Ok(())
     }
 }

@@ -1,7 +1,7 @@
 // The net table, and what no value of it is without.
-ghost use Rattle.std.specs.Prelude.{ℕ, ◌≤◌, slice_index, slice_index_or};
+ghost use Rattle.std.specs.Prelude.{◌≡◌, ℕ, ◌≤◌, slice_index, slice_index_or};
 ghost use Rattle.model.specs.Sizes.{most_places, most_moves, most_arc, most_limit};
-ghost use Rattle.table.specs.Cells.{cell};
+ghost use Rattle.table.specs.Cells.{none, cell};
 
 use crate::cell::Cell;
 use model::sizes::{MOST_MOVES, MOST_PLACES};
@@ -22,6 +22,8 @@ pub struct Table {
     ghost few_moves: { moves ≤ most_moves },
     ghost small_takes: { (p t : ℕ) → (cell arcs p t).take ≤ most_arc },
     ghost small_gives: { (p t : ℕ) → (cell arcs p t).give ≤ most_arc },
+    // no arc at a spare place, so that a call may go over all of them
+    ghost spare: { (p t : ℕ) → places ≤ p → cell arcs p t ≡ none },
     ghost some_limits: { (p : ℕ) → 1 ≤ slice_index_or limits p 1 },
     ghost small_limits: { (p : ℕ) → slice_index_or limits p 1 ≤ most_limit },
     ghost held: { (p : ℕ) → slice_index tokens p ≤ slice_index_or limits p 1 },

@@ -8,7 +8,7 @@ use Rattle.table.specs.declared.cell.Cell.{Cell}
 use Rattle.table.specs.Cells.{cell}
 use Rattle.table.specs.Made.{arc_amount, joins}
 use Rattle.plant.proofs.Made.{copied, mapped}
-use Rattle.table.proofs.Making.{Fits, fits_parts, taken, given, some_limits, small_limits, held_by, limit_is, tokens_are, same_net}
+use Rattle.table.proofs.Making.{Fits, fits_parts, taken, given, no_spare, some_limits, small_limits, held_by, limit_is, tokens_are, same_net}
 use Rattle.table.proofs.make.make.Goals as goal
 use Rattle.table.proofs.make.make.Goals.{After-front-3, at-returns}
 
@@ -63,6 +63,11 @@ invariant_of-result-clause-some_moves c = omega (arith, c.len-2.ensures, (fits c
 
 pub invariant_of-result-clause-few_moves : goal.invariant_of-result-clause-few_moves
 invariant_of-result-clause-few_moves c = omega (arith, c.len-2.ensures, (fits c).few_moves)
+
+pub invariant_of-result-clause-spare : goal.invariant_of-result-clause-spare
+invariant_of-result-clause-spare c = λ p t h.
+    c.cells_of.ensures.cells p t
+    ∙ no_spare c.len.result (vec_len c.args.net.now.moves) (vec_len c.args.net.now.places) p t c.len.ensures h c.deref-2.result.now (vec_items c.args.net.now.arcs) c.deref-2.ensures.value (fits c).joining_all
 
 pub invariant_of-result-clause-some_limits : goal.invariant_of-result-clause-some_limits
 invariant_of-result-clause-some_limits c = some_limits (vec_items c.args.net.now.places) (fits c).filled c.front-2.result (limits c)

@@ -1,33 +1,38 @@
-use Rattle.std.proofs.Common.{◌≡◌, ℕ, ◌-◌, ◌<◌, ◌≤◌, get_or, refl, rules}
+use Rattle.std.proofs.Common.{◌≡◌, ℕ, ◌-◌, ◌<◌, ◌≤◌, get_or, refl, rules, arith}
 use Rattle.std.proofs.iter.Serving.{serving}
 use Rattle.model.specs.Plant.{begin_answer}
-use Rattle.model.specs.Sizes.{most_places}
+use Rattle.model.specs.Sizes.{most_places, most_moves}
 use Rattle.plant.proofs.Alone.{alone_begun}
 use Rattle.plant.proofs.Made.{made_at}
 use Rattle.table.specs.Tables.{net_of, tokens_of}
-use Rattle.table.proofs.Firing.{after, still_held, begun_none, begun_low, begin_takes}
+use Rattle.table.proofs.Firing.{after, still_held, have, took, begin_takes, begin_move, begun_same, begun_none, begun_low, begun_spare}
 use Rattle.table.proofs.fire.TablePlant.begin.Goals as goal
 use Rattle.table.proofs.fire.TablePlant.begin.Goals.{After-from_fn-self, at-returns}
 
-made : (c : After-from_fn-self) (p : ℕ) → p < most_places → get_or c.from_fn-self.result p 0 ≡ tokens_of c.args.self.now p - (net_of c.args.self.now).take p c.args.t
+made : (c : After-from_fn-self) (p : ℕ) → p < most_places → get_or c.from_fn-self.result p 0 ≡ have c.args.self.now c.args.t p - took c.args.self.now c.args.t p
 made c p l =
-    made_at _ c.from_fn-self.result most_places (λ q y. y ≡ tokens_of c.args.self.now q - (net_of c.args.self.now).take q c.args.t)
+    made_at _ c.from_fn-self.result most_places (λ q y. y ≡ have c.args.self.now c.args.t q - took c.args.self.now c.args.t q)
     (λ q y f h k. search rules) c.from_fn-self.ensures.items p 0 l
 
 pub from_fn-self-requires : goal.from_fn-self-requires
 from_fn-self-requires c =
-    let low : (p : ℕ) → (net_of c.args.self.now).take p c.args.t ≤ tokens_of c.args.self.now p = begin_takes c.args.self.now c.args.t c.in_ok-may_begin.ensures in
+    let s = c.args.self.now in
+    let e = c.in_ok-may_begin.ensures in
+    let in' : c.args.t < most_moves = omega (arith, begin_move s c.args.t e, s.few_moves) in
+    let low : (p : ℕ) → took s c.args.t p ≤ have s c.args.t p = begin_takes s c.args.t e in
     grind serving
 
 pub invariant_of-self-clause-held : goal.invariant_of-self-clause-held
 invariant_of-self-clause-held c =
-    still_held c.args.self.now c.from_fn-self.result _ (made c) c.from_fn-self.ensures.items.long (begun_low c.args.self.now c.args.t)
+    let s = c.args.self.now in
+    let e = c.in_ok-may_begin.ensures in
+    still_held s c.from_fn-self.result _ _ (made c) (begun_same s c.args.t e) c.from_fn-self.ensures.items.long (begun_low s c.args.t) (begun_spare s c.args.t)
 
 pub returns : goal.returns
 returns c =
     let s = c.args.self.now in
     let e = c.in_ok-may_begin.ensures in
-    let moved = after s c.from_fn-self.result _ (made (at-returns c).After-from_fn-self) (begin_answer (net_of s) (tokens_of s) c.args.t) e (begun_none s c.args.t) in
+    let moved = after s c.from_fn-self.result _ _ (made (at-returns c).After-from_fn-self) (begun_same s c.args.t e) (begin_answer (net_of s) (tokens_of s) c.args.t) e (begun_none s c.args.t) in
     record {
       answer = e;
       same = refl;
