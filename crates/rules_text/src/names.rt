@@ -4,7 +4,7 @@ ghost use Rattle.std.specs.Option.{option_map};
 ghost use Rattle.formats.specs.Words.{is_new};
 ghost use Rattle.formats.specs.NetText.{place_names};
 ghost use Rattle.texts.specs.Spans.{part_of};
-ghost use Rattle.rules_text.specs.Naming.{titles, rule_found};
+ghost use Rattle.rules_text.specs.Naming.{named_titles, rule_found};
 
 use crate::rule::RulesText;
 use net_text::named_net::{NamedNet, name_at};
@@ -35,7 +35,7 @@ impl<'r, 'a> NamedRules<'r, 'a> {
 
     // The name of the rule `r`, where 0 is the fixed one and the others follow it.
     pub fn rule_name(&self, r: usize) -> Option<&'a [u8]>
-        ensures { option_map (λ x. x.now) result ≡ slice_get (titles self.now) r }
+        ensures { option_map (λ x. x.now) result ≡ slice_get (named_titles self.now) r }
     {
         if r == 0 {
             Some(self.fixed_name())
@@ -47,7 +47,7 @@ impl<'r, 'a> NamedRules<'r, 'a> {
     // The name of the place `p` over the net: a part of the net text for a ground place, of the rules text for a control place. The
     // control places follow the ground places, the fixed rule's first, then those of the rows.
     pub fn place_name(&self, net: &NamedNet<'_, 'a>, p: usize) -> Option<&'a [u8]>
-        ensures { option_map (λ x. x.now) result ≡ slice_get (place_names net.now ++ titles self.now) p }
+        ensures { option_map (λ x. x.now) result ≡ slice_get (place_names net.now ++ named_titles self.now) p }
     {
         let ground = net.place_count();
         if p < ground {
@@ -59,7 +59,7 @@ impl<'r, 'a> NamedRules<'r, 'a> {
 
     // The rule of that name.
     pub fn find_rule(&self, name: &[u8]) -> Option<Rule>
-        ensures { result ≡ rule_found (titles self.now) name.now }
+        ensures { result ≡ rule_found (named_titles self.now) name.now }
     {
         if same(self.fixed_name(), name) {
             return Some(Rule::Fixed);
@@ -69,7 +69,7 @@ impl<'r, 'a> NamedRules<'r, 'a> {
 
     // Whether no rule has the name.
     pub fn is_new(&self, name: &[u8]) -> bool
-        ensures { result ≡ is_new (titles self.now) name.now }
+        ensures { result ≡ is_new (named_titles self.now) name.now }
     {
         !same(self.fixed_name(), name) && lacks(&self.rules.others, self.text, name)
     }
