@@ -13,6 +13,7 @@ use std::{array, fs, io};
 use table::table::Table;
 
 // What is made of the net text at the path, or an error with these words where nothing can be made of it.
+// Kept: drills has the same function; a library crate for it would ask for a contract, its words and an edit, which are more lines.
 fn made<P, F: FnOnce(&NetText) -> Option<P>>(
     rt: &HostRuntime,
     path: &str,
