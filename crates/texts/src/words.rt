@@ -1,5 +1,5 @@
 // Names and numbers, and where a byte stands.
-ghost use Rattle.std.specs.Prelude.{◌≡◌, ℕ, ◌+◌, ◌<◌, ◌≤◌, min, ◌&&◌, length, drop, nat_le};
+ghost use Rattle.std.specs.Prelude.{◌≡◌, ◌+◌, ◌<◌, ◌≤◌, min, ◌&&◌, length, drop, nat_le};
 ghost use Rattle.std.specs.List.{prefix_len};
 ghost use Rattle.model.specs.Sizes.{name_tail};
 ghost use Rattle.formats.specs.Words.{is_letter, is_digit, is_name, is_not, all};
