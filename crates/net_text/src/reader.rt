@@ -70,6 +70,8 @@ impl<'a> NetReader<'a> {
     }
 
     // Adds what a line says to the net; no record of a first line or of the rules text may come here.
+    // Kept: like `add_record` and `read_lines` of `rules_text`; a trait of both would have this match in each impl and, to share the
+    // loop's four lines, five ghost items: the text, the lines so far, the order of checks, what is said, and where names stand.
     fn add_record(&mut self, at: At, line: Record<'_>) -> Result<(), ReadError>
         requires stands { Stands self.old.text.now at.byte (shape_of line) }
         ensures { LineAdded self.old self.new at (shape_of line.entry) result }
