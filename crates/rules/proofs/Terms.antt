@@ -1,5 +1,5 @@
 -- The terms of a weighted sum over the ground places, and that neither they nor their sums are too large for the code.
-use Rattle.std.proofs.Common.{◌≡◌, ℕ, ◌+◌, ◌*◌, ◌^◌, ◌<◌, ◌≤◌, ℤ, pos, ◌+ℤ◌, ◌-ℤ◌, ◌*ℤ◌, nat_abs, sym, ap, ◌∙◌, ap₂, mul-le-mul, add-one, arith, w32, SFits, to_z, of_z}
+use Rattle.std.proofs.Common.{ℕ, ◌*◌, ◌^◌, ◌<◌, ◌≤◌, ℤ, pos, ◌-ℤ◌, ◌*ℤ◌, nat_abs, mul-le-mul, arith}
 use Rattle.std.proofs.lemmas.Int.{ints}
 use Rattle.model.specs.Sizes.{most_places, most_arc, most_limit, most_worked_weight}
 use Rattle.model.specs.Net.{Net, Ranges, signed_sum, incidence}
@@ -29,22 +29,3 @@ module _ (w x : ℕ → ℤ) (weights : (p : ℕ) → nat_abs (w p) ≤ most_wor
 
   pub sum_small : (p : ℕ) → p ≤ ground_places → nat_abs (signed_sum p (λ q. w q *ℤ x q)) ≤ most_places * most_term
   sum_small p l = omega (arith, signed_sum_abs p most_term (λ q. w q *ℤ x q) (λ q h. term_small q (omega arith)))
-
--- one more term of such a sum: s is the sum over the places below p, and t the term, as the code has them; w is the weight and x the number
-pub record More (p : ℕ) (s t w x : ℤ) : Type 0 where
-  pub fits : SFits w32 (s +ℤ to_z w32 (of_z w32 t))
-  pub small : nat_abs (to_z w32 (of_z w32 (s +ℤ to_z w32 (of_z w32 t)))) ≤ (p + 1) * most_term
-  pub sums : (v f : ℕ → ℤ) → s ≡ signed_sum p (λ q. v q *ℤ f q) → w ≡ v p → x ≡ f p → to_z w32 (of_z w32 (s +ℤ to_z w32 (of_z w32 t))) ≡ signed_sum (p + 1) (λ q. v q *ℤ f q)
-
-pub more : (p : ℕ) (s t w x : ℤ) → p < most_places → nat_abs s ≤ p * most_term → nat_abs w ≤ most_worked_weight → nat_abs x ≤ most_limit → t ≡ w *ℤ x → More p s t w x
-more p s t w x few so_far weight number is = record {
-  fits = omega (arith, ints, so_far, few, size);
-  small = rw plain (omega (arith, ints, so_far, size));
-  sums = λ v f e i j. plain ∙ ap₂ (λ a b. a +ℤ b) e (is ∙ ap₂ (λ a b. a *ℤ b) i j) ∙ sym (ap (λ i. signed_sum i (λ q. v q *ℤ f q)) (add-one p));
-}
-  where
-    size : nat_abs t ≤ most_term
-    size = rw is (abs_mul_le w x most_worked_weight most_limit weight number)
-
-    plain : to_z w32 (of_z w32 (s +ℤ to_z w32 (of_z w32 t))) ≡ s +ℤ t
-    plain = omega (arith, ints, so_far, few, size)

@@ -6,7 +6,6 @@ ghost use Rattle.model.specs.Rule.{raise as raise_of, weighted_free};
 ghost use Rattle.rules.specs.Rules.{worked_of};
 ghost use Rattle.rules.specs.Weighing.{Limited, Gives};
 
-use crate::product::product;
 use crate::worked::WorkedRule;
 use plant::net::Net;
 use plant::plant::Plant;
@@ -49,11 +48,7 @@ impl WorkedRule {
         ensures small { unsigned_abs result ≤ most_places * (most_worked_weight * most_limit) }
         ensures value { (f : ℕ → ℤ) → Gives (F.post value) ground f → result ≡ signed_sum ground (λ p. (worked_of self.now).weight p *ℤ f p) }
     {
-        let mut sum = 0;
-        'places: for p in 0..ground {
-            sum += product(self.weight(p), value(p));
-        }
-        sum
+        (0..ground).map(|p| self.weight(p) * value(p)).sum()
     }
 
     // By how much the move `t` raises the weighted sum of the tokens.
