@@ -1,5 +1,5 @@
 -- The terms of a weighted sum over the ground places, and that neither they nor their sums are too large for the code.
-use Rattle.std.proofs.Common.{◌≡◌, ℕ, ◌+◌, ◌*◌, ◌^◌, ◌<◌, ◌≤◌, ℤ, pos, ◌+ℤ◌, ◌-ℤ◌, ◌*ℤ◌, nat_abs, sym, ap, ◌∙◌, ap₂, mul-le-mul, add-one, arith, w32, SFits, to_z, of_z}
+use Rattle.std.proofs.Common.{ℕ, ◌*◌, ◌^◌, ◌<◌, ◌≤◌, ℤ, pos, ◌-ℤ◌, ◌*ℤ◌, nat_abs, mul-le-mul, arith}
 use Rattle.std.proofs.lemmas.Int.{ints}
 use Rattle.model.specs.Sizes.{most_places, most_arc, most_limit, most_worked_weight}
 use Rattle.model.specs.Net.{Net, Ranges, signed_sum, incidence}
@@ -29,23 +29,3 @@ module _ (w x : ℕ → ℤ) (weights : (p : ℕ) → nat_abs (w p) ≤ most_wor
 
   pub sum_small : (p : ℕ) → p ≤ ground_places → nat_abs (signed_sum p (λ q. w q *ℤ x q)) ≤ most_places * most_term
   sum_small p l = omega (arith, signed_sum_abs p most_term (λ q. w q *ℤ x q) (λ q h. term_small q (omega arith)))
-
-  -- one more term
-  module _ (p : ℕ) (inside : p < ground_places) (sum term : ℤ) (so_far : sum ≡ signed_sum p (λ q. w q *ℤ x q)) (next : term ≡ w p *ℤ x p) where
-    sum_size : nat_abs sum ≤ most_places * most_term
-    sum_size = rw so_far (sum_small p (omega arith))
-
-    term_size : nat_abs term ≤ most_term
-    term_size = rw next (term_small p inside)
-
-    pub more_fits : SFits w32 (sum +ℤ to_z w32 (of_z w32 term))
-    more_fits = fits sum term sum_size term_size
-      where
-        fits : (a b : ℤ) → nat_abs a ≤ most_places * most_term → nat_abs b ≤ most_term → SFits w32 (a +ℤ to_z w32 (of_z w32 b))
-        fits a b h k = omega (arith, ints)
-
-    pub more_is : to_z w32 (of_z w32 (sum +ℤ to_z w32 (of_z w32 term))) ≡ signed_sum (p + 1) (λ q. w q *ℤ x q)
-    more_is = same sum term sum_size term_size ∙ ap₂ (λ a b. a +ℤ b) so_far next ∙ sym (ap (λ i. signed_sum i (λ q. w q *ℤ x q)) (add-one p))
-      where
-        same : (a b : ℤ) → nat_abs a ≤ most_places * most_term → nat_abs b ≤ most_term → to_z w32 (of_z w32 (a +ℤ to_z w32 (of_z w32 b))) ≡ a +ℤ b
-        same a b h k = omega (arith, ints)

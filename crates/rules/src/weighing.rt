@@ -1,11 +1,11 @@
 // What a worked rule tells: its numbers, by how much a move raises it, and how much a plant's tokens leave of its bound.
-ghost use Rattle.std.specs.Prelude.{◌≡◌, ◌*◌, ◌<◌, ◌≤◌, ◌-ℤ◌, unsigned_abs};
+ghost use Rattle.std.specs.Prelude.{◌≡◌, ℕ, ◌*◌, ◌<◌, ◌≤◌, ℤ, ◌-ℤ◌, ◌*ℤ◌, unsigned_abs};
 ghost use Rattle.model.specs.Sizes.{most_places, most_arc, most_limit, most_worked_weight};
-ghost use Rattle.model.specs.Net.{incidence as incidence_of};
+ghost use Rattle.model.specs.Net.{signed_sum, incidence as incidence_of};
 ghost use Rattle.model.specs.Rule.{raise as raise_of, weighted_free};
 ghost use Rattle.rules.specs.Rules.{worked_of};
+ghost use Rattle.rules.specs.Weighing.{Limited, Gives};
 
-use crate::product::product;
 use crate::worked::WorkedRule;
 use plant::net::Net;
 use plant::plant::Plant;
@@ -40,17 +40,22 @@ impl WorkedRule {
         self.rounds
     }
 
+    // The sum over the ground places of their weight times what `value` gives of each.
+    fn weighted_by<F: Fn(usize) -> i32>(&self, ground: usize, value: F) -> i32
+        requires few { ground ≤ most_places }
+        requires callable { (p : ℕ) → p < ground → F.pre value p }
+        requires limited { Limited (F.post value) ground }
+        ensures small { unsigned_abs result ≤ most_places * (most_worked_weight * most_limit) }
+        ensures value { (f : ℕ → ℤ) → Gives (F.post value) ground f → result ≡ signed_sum ground (λ p. (worked_of self.now).weight p *ℤ f p) }
+    {
+        (0..ground).map(|p| self.weight(p) * value(p)).sum()
+    }
+
     // By how much the move `t` raises the weighted sum of the tokens.
-    // Kept: a `for` here and below, since `sum` of signed numbers is given no bound, and one function of both would need clauses on
-    // the closure that are longer than a loop.
     pub fn raise<N: Net>(&self, net: &N, t: usize) -> i32
         ensures { result ≡ raise_of (N.Net.net net.now) (worked_of self.now).weight t }
     {
-        let mut sum = 0;
-        'places: for p in 0..net.ground() {
-            sum += product(self.weight(p), incidence(net, p, t));
-        }
-        sum
+        self.weighted_by(net.ground(), |p| incidence(net, p, t))
     }
 
     // The weighted sum of the tokens now in the plant.
@@ -58,11 +63,7 @@ impl WorkedRule {
         ensures small { unsigned_abs result ≤ most_places * (most_worked_weight * most_limit) }
         ensures value { result ≡ weighted_free (P.Net.net plant.now) (worked_of self.now).weight (P.Plant.tokens plant.now) }
     {
-        let mut sum = 0;
-        'places: for p in 0..plant.ground() {
-            sum += product(self.weight(p), plant.free(p) as i32);
-        }
-        sum
+        self.weighted_by(plant.ground(), |p| plant.free(p) as i32)
     }
 
     // How far the weighted sum of the tokens now in the plant is below the bound; negative where it is above.
