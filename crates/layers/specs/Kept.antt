@@ -1,5 +1,6 @@
--- What no row in a monitor or a board is without, and that each change of one keeps it.
-use Rattle.std.specs.Prelude.{◌≡◌, ℕ, ◌<◌, ◌≤◌, cond, ◌⊎◌, List, length, replicate, ℤ, pos, negsuc, ◌==◌, ◌≢◌, slice_set, unsigned_abs, refl}
+-- What no row in a monitor or a board is without, and that each change of one keeps it; and that a move takes from a row or gives to
+-- it, never both, whatever its numbers are.
+use Rattle.std.specs.Prelude.{◌≡◌, ℕ, ◌<◌, ◌≤◌, cond, ◌⊎◌, List, length, replicate, ℤ, pos, negsuc, ◌==◌, ◌≢◌, slice_index_or, slice_set, unsigned_abs, refl}
 use Rattle.std.proofs.Common.{sym, ◌∙◌, ap, inl, inr, ⊎_elim, arith}
 use Rattle.std.proofs.lemmas.List.{get_or_past, get_or-replicate, get_or-set_same, get_or-set_other, length-replicate}
 use Rattle.std.proofs.lemmas.Bool.{cases_eq, cases_lt, cond-true, cond-false, cond_both, eq-eqb, ne_eqb}
@@ -12,28 +13,29 @@ use Rattle.layers.specs.declared.row.Row.{Row}
 use Rattle.layers.specs.Rows.{row_of, nothing, rows_of, rule_row, top_of}
 
 pub record Kept (x : model.Row) : Type 0 where
-  pub one_way : (t : ℕ) → 0 < x.take t → x.give t ≡ 0
   pub low : x.free ≤ control_limit
   pub small_takes : (t : ℕ) → x.take t ≤ most_control_arc
   pub small_gives : (t : ℕ) → x.give t ≤ most_control_arc
 
 pub kept_blank : Kept blank
-kept_blank = record { one_way = λ t l. refl; low = omega arith; small_takes = λ t. omega arith; small_gives = λ t. omega arith }
+kept_blank = record { low = omega arith; small_takes = λ t. omega arith; small_gives = λ t. omega arith }
 
 pub kept_free : (x : model.Row) (free : ℕ) → free ≤ control_limit → Kept x → Kept (row_with x free)
-kept_free x free l k = record { one_way = k.one_way; low = l; small_takes = k.small_takes; small_gives = k.small_gives }
+kept_free x free l k = record { low = l; small_takes = k.small_takes; small_gives = k.small_gives }
 
 pub kept_rule : (raises : ℕ → ℤ) (free : ℕ) → free ≤ control_limit → ((t : ℕ) → unsigned_abs (raises t) ≤ most_control_arc) → Kept (rule_row raises free)
 kept_rule raises free l small = record {
-  one_way = λ t. never_both (raises t);
   low = l;
   small_takes = λ t. omega (arith, positive_le (raises t), small t);
   small_gives = λ t. omega (arith, negative_le (raises t), small t);
 }
-  where
-    never_both : (z : ℤ) → 0 < positive z → negative z ≡ 0
-    never_both (pos n) h = refl
-    never_both (negsuc n) h = absurd (omega arith)
+
+never_both : (z : ℤ) → 0 < positive z → negative z ≡ 0
+never_both (pos n) h = refl
+never_both (negsuc n) h = absurd (omega arith)
+
+pub one_way : (row : Row) (t : ℕ) → 0 < (row_of row).take t → (row_of row).give t ≡ 0
+one_way row t = never_both (slice_index_or row.raises t (pos 0))
 
 -- ---- one row of a table
 pub rows_set : (rows : List Row) (r : ℕ) (x : Row) → r < length rows → rows_of (slice_set rows r x) ≡ change_row (rows_of rows) r (row_of x)
