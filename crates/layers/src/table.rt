@@ -64,11 +64,25 @@ impl<const N: usize> Rows for Table<N> {
         self.rows.get(r).is_some_and(|row| row.in_use)
     }
 
-    fn set_free(&mut self, r: usize, free: u32) {
-        self.rows[r].free = free;
-    }
-
     fn set_rule(&mut self, r: usize, raises: &[i32; MOST_MOVES], free: u32) {
         self.rows[r].set_rule(raises, free);
+    }
+
+    fn begin(&mut self, t: usize) {
+        'begun: for row in &mut self.rows {
+            row.free -= row.take(t);
+        }
+    }
+
+    fn finish(&mut self, t: usize) {
+        'finished: for row in &mut self.rows {
+            row.free += row.give(t);
+        }
+    }
+
+    fn back(&mut self, t: usize) {
+        'gone_back: for row in &mut self.rows {
+            row.free += row.take(t);
+        }
     }
 }
