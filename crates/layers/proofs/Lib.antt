@@ -1,4 +1,3 @@
-pub mod Arcs
 pub mod Rowwise
 pub mod Calls
 pub mod Fresh

@@ -4,7 +4,7 @@
 --   rows_of          the rows of a table of them
 --   rule_row         the row of a rule that each move raises by so much, with so many tokens
 --   top_of           the layer that a table of so many rows is for: a monitor's one row, and a board's otherwise
-use Rattle.std.specs.Prelude.{ℕ, true, false, cond, List, [], ℤ, ◌==◌, slice_index, slice_index_or}
+use Rattle.std.specs.Prelude.{ℕ, true, false, cond, List, [], ℤ, pos, ◌==◌, slice_index_or}
 use Rattle.model.specs.Rule.{positive, negative}
 use Rattle.model.specs.Layer as model
 use Rattle.model.specs.Layer.{Top, monitor, board}
@@ -12,10 +12,10 @@ use Rattle.model.specs.Sizes.{monitor_rows}
 use Rattle.layers.specs.declared.row.Row.{Row}
 
 abbrev pub row_of : Row → model.Row
-row_of r = record { take = λ t. slice_index r.take t; give = λ t. slice_index r.give t; free = r.free; in_use = r.in_use }
+row_of r = record { take = λ t. positive (slice_index_or r.raises t (pos 0)); give = λ t. negative (slice_index_or r.raises t (pos 0)); free = r.free; in_use = r.in_use }
 
 abbrev pub nothing : Row
-nothing = record { take = []; give = []; free = 0; in_use = false }
+nothing = record { raises = []; free = 0; in_use = false }
 
 abbrev pub rows_of : List Row → ℕ → model.Row
 rows_of rows r = row_of (slice_index_or rows r nothing)

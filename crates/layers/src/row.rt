@@ -1,17 +1,16 @@
 // A row of a layer, plain: what keeps it in order is with the rows that hold it.
-ghost use Rattle.std.specs.Prelude.{◌≡◌, ℕ, pos, slice_index_or};
+ghost use Rattle.std.specs.Prelude.{◌≡◌, pos, slice_index_or};
 ghost use Rattle.layers.specs.Rows.{row_of, rule_row};
 ghost use Rattle.model.specs.Layer.{blank};
 ghost use Rattle.model.specs.Rule.{positive, negative};
 
 use model::sizes::MOST_MOVES;
 
-// What each move takes and gives here, the tokens that are free, and whether a rule is set.
+// By how much each move raises the rule, the tokens that are free, and whether a rule is set.
 // Kept: `in_use` beside the arcs is no `Option`, since a board's table holds twelve plain rows, each with its arcs from the start.
 #[derive(Clone, Copy)]
 pub struct Row {
-    pub(crate) take: [u32; MOST_MOVES],
-    pub(crate) give: [u32; MOST_MOVES],
+    pub(crate) raises: [i32; MOST_MOVES],
     pub(crate) free: u32,
     pub(crate) in_use: bool,
 }
@@ -36,34 +35,38 @@ impl Row {
         ensures { row_of result ≡ blank }
     {
         Row {
-            take: [0; MOST_MOVES],
-            give: [0; MOST_MOVES],
+            raises: [0; MOST_MOVES],
             free: 0,
             in_use: false,
         }
     }
 
-    // What the move `t` takes here; nothing if there can be no such move.
+    // By how much the move `t` raises the rule; by nothing if there can be no such move.
+    fn raise(&self, t: usize) -> i32
+        ensures { result ≡ slice_index_or self.now.raises t (pos 0) }
+    {
+        self.raises.get(t).copied().unwrap_or(0)
+    }
+
+    // What the move `t` takes here: what it raises the rule by.
     pub(crate) fn take(&self, t: usize) -> u32
         ensures { result ≡ (row_of self.now).take t }
     {
-        self.take.get(t).copied().unwrap_or(0)
+        rise(self.raise(t))
     }
 
-    // What the move `t` gives here; nothing if there can be no such move.
+    // What the move `t` gives here: what it lowers the rule by.
     pub(crate) fn give(&self, t: usize) -> u32
         ensures { result ≡ (row_of self.now).give t }
     {
-        self.give.get(t).copied().unwrap_or(0)
+        fall(self.raise(t))
     }
 
-    // Makes this the row of a rule, by what each move raises it, with so many tokens: a move takes what it raises the rule by, or
-    // gives what it lowers the rule by.
+    // Makes this the row of a rule, by what each move raises it, with so many tokens.
     pub(crate) fn set_rule(&mut self, raises: &[i32; MOST_MOVES], free: u32)
         ensures { row_of self.new ≡ rule_row (λ t. slice_index_or raises.now t (pos 0)) free }
     {
-        self.take = raises.map(rise);
-        self.give = raises.map(fall);
+        self.raises = *raises;
         self.free = free;
         self.in_use = true;
     }

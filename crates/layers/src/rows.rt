@@ -37,12 +37,6 @@ pub trait Rows {
     fn in_use(&self, r: usize) -> bool
         ensures { result ≡ (rows self.now r).in_use };
 
-    // The row `r` has so many tokens; no other row changes.
-    fn set_free(&mut self, r: usize, free: u32)
-        requires row { r < row_count top }
-        requires room { free ≤ control_limit }
-        ensures { rows self.new ≡ change_row (rows self.old) r (row_with (rows self.old r) free) };
-
     // The row `r` is that of a rule, by what each move raises it, with so many tokens; no other row changes.
     fn set_rule(&mut self, r: usize, raises: &[i32; MOST_MOVES], free: u32)
         requires row { r < row_count top }
@@ -58,6 +52,8 @@ pub trait Rows {
     }
 
     // The lowest row that would go over its limit by what the move `t` gives there.
+    // Kept: one line here and one in the next. A shared `over_by(|r| self.give(r, t))` would call its closure in the closure that it
+    // gives to `lowest`, with a clause on what the first may be asked, one on what it answers, and two on the second.
     fn over_by_give(&self, t: usize) -> Option<usize>
         ensures { result ≡ lowest_of (λ r. nat_lt control_limit ((rows self.now r).free + (rows self.now r).give t)) 0 (row_count top) }
     {
@@ -76,35 +72,19 @@ pub trait Rows {
     }
 
     // Takes from each row what the move `t` takes there.
-    // Kept: this loop and the next two, each of one call. A shared loop would hand the rows, of which some are changed, to a closure.
     fn begin(&mut self, t: usize)
         requires { (r : ℕ) → r < row_count top → (rows self.old r).take t ≤ (rows self.old r).free }
-        ensures { rows self.new ≡ (λ r. row_with (rows self.old r) ((rows self.old r).free - (rows self.old r).take t)) }
-    {
-        'rows: for r in 0..self.count() {
-            self.set_free(r, self.free(r) - self.take(r, t));
-        }
-    }
+        ensures { rows self.new ≡ (λ r. row_with (rows self.old r) ((rows self.old r).free - (rows self.old r).take t)) };
 
     // Gives to each row what the move `t` gives there.
     fn finish(&mut self, t: usize)
         requires { (r : ℕ) → r < row_count top → (rows self.old r).free + (rows self.old r).give t ≤ control_limit }
-        ensures { rows self.new ≡ (λ r. row_with (rows self.old r) ((rows self.old r).free + (rows self.old r).give t)) }
-    {
-        'rows: for r in 0..self.count() {
-            self.set_free(r, self.free(r) + self.give(r, t));
-        }
-    }
+        ensures { rows self.new ≡ (λ r. row_with (rows self.old r) ((rows self.old r).free + (rows self.old r).give t)) };
 
     // Gives back to each row what the move `t` takes there.
     fn back(&mut self, t: usize)
         requires { (r : ℕ) → r < row_count top → (rows self.old r).free + (rows self.old r).take t ≤ control_limit }
-        ensures { rows self.new ≡ (λ r. row_with (rows self.old r) ((rows self.old r).free + (rows self.old r).take t)) }
-    {
-        'rows: for r in 0..self.count() {
-            self.set_free(r, self.free(r) + self.take(r, t));
-        }
-    }
+        ensures { rows self.new ≡ (λ r. row_with (rows self.old r) ((rows self.old r).free + (rows self.old r).take t)) };
 
     ghost some: { 1 ≤ row_count top };
 
@@ -113,4 +93,6 @@ pub trait Rows {
     ghost missing: { (s : Self) (r : ℕ) → row_count top ≤ r → rows s r ≡ blank };
 
     ghost kept: { (s : Self) (r : ℕ) → Kept (rows s r) };
+
+    ghost one_way: { (s : Self) (r t : ℕ) → 0 < (rows s r).take t → (rows s r).give t ≡ 0 };
 }

@@ -1,7 +1,7 @@
 // A table of so many rows, and what no value of it is without.
-ghost use Rattle.std.specs.Prelude.{◌≡◌, ℕ, length};
-ghost use Rattle.layers.specs.Kept.{Kept, rows_past, top_some, top_few};
-ghost use Rattle.layers.specs.Rows.{rows_of, top_of};
+ghost use Rattle.std.specs.Prelude.{◌≡◌, ℕ, length, slice_index_or};
+ghost use Rattle.layers.specs.Kept.{Kept, one_way, rows_past, top_some, top_few};
+ghost use Rattle.layers.specs.Rows.{nothing, rows_of, top_of};
 ghost use Rattle.model.specs.Layer.{blank, row_count};
 ghost use Rattle.std.proofs.Common.{arith};
 
@@ -42,6 +42,8 @@ impl<const N: usize> Rows for Table<N> {
 
     ghost kept = { λ s. s.kept };
 
+    ghost one_way = { λ s r. one_way (slice_index_or s.rows r nothing) };
+
     fn count(&self) -> usize {
         N
     }
@@ -62,11 +64,25 @@ impl<const N: usize> Rows for Table<N> {
         self.rows.get(r).is_some_and(|row| row.in_use)
     }
 
-    fn set_free(&mut self, r: usize, free: u32) {
-        self.rows[r].free = free;
-    }
-
     fn set_rule(&mut self, r: usize, raises: &[i32; MOST_MOVES], free: u32) {
         self.rows[r].set_rule(raises, free);
+    }
+
+    fn begin(&mut self, t: usize) {
+        'begun: for row in &mut self.rows {
+            row.free -= row.take(t);
+        }
+    }
+
+    fn finish(&mut self, t: usize) {
+        'finished: for row in &mut self.rows {
+            row.free += row.give(t);
+        }
+    }
+
+    fn back(&mut self, t: usize) {
+        'gone_back: for row in &mut self.rows {
+            row.free += row.take(t);
+        }
     }
 }
