@@ -58,10 +58,10 @@ impl<P: Plant, R: Rows> Plant for Layer<P, R> {
     }
 
     fn begin(&mut self, t: usize) -> Result<(), Fault>
-        ensures answer { result ≡ begin_answer (⟦<Layer<P, R> as Net>⟧.net self.old) (⟦<Layer<P, R> as Plant>⟧.tokens self.old) t }
-        ensures same { ⟦<Layer<P, R> as Net>⟧.net self.new ≡ ⟦<Layer<P, R> as Net>⟧.net self.old }
-        ensures after { ⟦<Layer<P, R> as Plant>⟧.tokens self.new ≡ begun (⟦<Layer<P, R> as Net>⟧.net self.old) (⟦<Layer<P, R> as Plant>⟧.tokens self.old) t }
-        ensures whole { ⟦<Layer<P, R> as Plant>⟧.pile self.new ≡ (if accepted result then pile_begun (⟦<Layer<P, R> as Plant>⟧.pile self.old) t else ⟦<Layer<P, R> as Plant>⟧.pile self.old) }
+        ensures answer { result ≡ begin_answer (⟦<Self as Net>⟧.net self.old) (⟦<Self as Plant>⟧.tokens self.old) t }
+        ensures same { ⟦<Self as Net>⟧.net self.new ≡ ⟦<Self as Net>⟧.net self.old }
+        ensures after { ⟦<Self as Plant>⟧.tokens self.new ≡ begun (⟦<Self as Net>⟧.net self.old) (⟦<Self as Plant>⟧.tokens self.old) t }
+        ensures whole { ⟦<Self as Plant>⟧.pile self.new ≡ (if accepted result then pile_begun (⟦<Self as Plant>⟧.pile self.old) t else ⟦<Self as Plant>⟧.pile self.old) }
         ensures shut { is_shut (row_count R.Rows.top) (P.Net.net self.old.below) ≡ true → R.Rows.rows self.new.rows ≡ R.Rows.rows self.old.rows }
     {
         self.known(t)?;
@@ -74,10 +74,10 @@ impl<P: Plant, R: Rows> Plant for Layer<P, R> {
     }
 
     fn finish(&mut self, t: usize) -> Result<(), Fault>
-        ensures answer { result ≡ finish_answer (⟦<Layer<P, R> as Net>⟧.net self.old) (⟦<Layer<P, R> as Plant>⟧.tokens self.old) t }
-        ensures same { ⟦<Layer<P, R> as Net>⟧.net self.new ≡ ⟦<Layer<P, R> as Net>⟧.net self.old }
-        ensures after { ⟦<Layer<P, R> as Plant>⟧.tokens self.new ≡ finished (⟦<Layer<P, R> as Net>⟧.net self.old) (⟦<Layer<P, R> as Plant>⟧.tokens self.old) t }
-        ensures whole { ⟦<Layer<P, R> as Plant>⟧.pile self.new ≡ (if accepted result then pile_finished (⟦<Layer<P, R> as Plant>⟧.pile self.old) t else ⟦<Layer<P, R> as Plant>⟧.pile self.old) }
+        ensures answer { result ≡ finish_answer (⟦<Self as Net>⟧.net self.old) (⟦<Self as Plant>⟧.tokens self.old) t }
+        ensures same { ⟦<Self as Net>⟧.net self.new ≡ ⟦<Self as Net>⟧.net self.old }
+        ensures after { ⟦<Self as Plant>⟧.tokens self.new ≡ finished (⟦<Self as Net>⟧.net self.old) (⟦<Self as Plant>⟧.tokens self.old) t }
+        ensures whole { ⟦<Self as Plant>⟧.pile self.new ≡ (if accepted result then pile_finished (⟦<Self as Plant>⟧.pile self.old) t else ⟦<Self as Plant>⟧.pile self.old) }
         ensures shut { is_shut (row_count R.Rows.top) (P.Net.net self.old.below) ≡ true → R.Rows.rows self.new.rows ≡ R.Rows.rows self.old.rows }
     {
         self.known(t)?;
@@ -90,10 +90,10 @@ impl<P: Plant, R: Rows> Plant for Layer<P, R> {
     }
 
     fn back(&mut self, t: usize) -> Result<(), Fault>
-        ensures answer { result ≡ back_answer (⟦<Layer<P, R> as Net>⟧.net self.old) (⟦<Layer<P, R> as Plant>⟧.tokens self.old) t }
-        ensures same { ⟦<Layer<P, R> as Net>⟧.net self.new ≡ ⟦<Layer<P, R> as Net>⟧.net self.old }
-        ensures after { ⟦<Layer<P, R> as Plant>⟧.tokens self.new ≡ gone_back (⟦<Layer<P, R> as Net>⟧.net self.old) (⟦<Layer<P, R> as Plant>⟧.tokens self.old) t }
-        ensures whole { ⟦<Layer<P, R> as Plant>⟧.pile self.new ≡ (if accepted result then pile_gone_back (⟦<Layer<P, R> as Plant>⟧.pile self.old) t else ⟦<Layer<P, R> as Plant>⟧.pile self.old) }
+        ensures answer { result ≡ back_answer (⟦<Self as Net>⟧.net self.old) (⟦<Self as Plant>⟧.tokens self.old) t }
+        ensures same { ⟦<Self as Net>⟧.net self.new ≡ ⟦<Self as Net>⟧.net self.old }
+        ensures after { ⟦<Self as Plant>⟧.tokens self.new ≡ gone_back (⟦<Self as Net>⟧.net self.old) (⟦<Self as Plant>⟧.tokens self.old) t }
+        ensures whole { ⟦<Self as Plant>⟧.pile self.new ≡ (if accepted result then pile_gone_back (⟦<Self as Plant>⟧.pile self.old) t else ⟦<Self as Plant>⟧.pile self.old) }
         ensures shut { is_shut (row_count R.Rows.top) (P.Net.net self.old.below) ≡ true → R.Rows.rows self.new.rows ≡ R.Rows.rows self.old.rows }
     {
         self.known(t)?;

@@ -1,8 +1,7 @@
-use Rattle.std.proofs.Common.{◌+◌, not, ◌&&◌, ltb, sym, ap, ◌∙◌}
+use Rattle.std.proofs.Common.{not, ◌&&◌, ltb, sym, ap, ◌∙◌}
 use Rattle.std.proofs.lemmas.Bool.{ltb-false}
 use Rattle.model.specs.declared.refusal.Refusal.TheVariants.{Short}
 use Rattle.model.specs.Net.{Net}
-use Rattle.model.specs.Sizes.{control_limit}
 use Rattle.model.specs.Layer.{row_count, is_shut}
 use Rattle.model.proofs.Checks.{err_not_ok}
 use Rattle.layers.proofs.Calls.{short_is, ok_below, none_in_rows}
