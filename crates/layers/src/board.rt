@@ -22,10 +22,7 @@ impl<P: Plant> Board<P> {
         ensures below { result.below ≡ below }
         ensures fresh { Fresh board (P.Net.net below) (P.Plant.tokens below) (⟦<Self as Plant>⟧.pile result) }
     {
-        Layer {
-            below,
-            rows: Table::blank(),
-        }
+        Self::blank(below)
     }
 
     // Whether the row `r` has a rule; a missing row has none.

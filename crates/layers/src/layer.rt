@@ -4,6 +4,7 @@ ghost use Rattle.layers.specs.Layers.{own_row};
 ghost use Rattle.model.specs.Layer.{is_shut, next_layer, row_count};
 
 use crate::rows::Rows;
+use crate::table::Table;
 use model::sizes::MOST_ALL_PLACES;
 use plant::plant::Plant;
 
@@ -65,5 +66,22 @@ impl<P: Plant, R: Rows> Layer<P, R> {
         ensures { result ≡ option_map (λ r. (P.Net.net self.now.below).places + r) found }
     {
         found.map(|r| self.below.places() + r)
+    }
+}
+
+impl<P: Plant, const N: usize> Layer<P, Table<N>> {
+    ghost use Rattle.layers.specs.Piles.{Fresh};
+    ghost use Rattle.layers.specs.Rows.{top_of};
+
+    // A layer over the plant, of rows without rules.
+    pub(crate) fn blank(below: P) -> Self
+        requires { row_count (top_of N) ≡ N }
+        ensures below { result.below ≡ below }
+        ensures fresh { Fresh (top_of N) (P.Net.net below) (P.Plant.tokens below) (⟦<Self as Plant>⟧.pile result) }
+    {
+        Layer {
+            below,
+            rows: Table::blank(),
+        }
     }
 }

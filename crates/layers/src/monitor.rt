@@ -20,10 +20,7 @@ impl<P: Plant> Monitor<P> {
         ensures below { result.below ≡ below }
         ensures fresh { Fresh monitor (P.Net.net below) (P.Plant.tokens below) (⟦<Self as Plant>⟧.pile result) }
     {
-        Layer {
-            below,
-            rows: Table::blank(),
-        }
+        Self::blank(below)
     }
 
     // Whether its rule is set.
