@@ -1,6 +1,8 @@
-// A layer as a plant: each call is refused as below if refused below, else by the layer's own rows. As a pile a shut layer has blank
-// rows, so each call says besides that it leaves those of a shut layer alone.
-// Kept: three calls alike, since a shared one would take closures on the plant below and on the rows, with clauses of their own.
+// A layer as a plant: the place that is in the way of a call is one below, else that of one of the layer's own rows. As a pile a shut
+// layer has blank rows, so each call says besides that it leaves those of a shut layer alone.
+// Kept: three calls alike. One for all would be `fn call(&mut self, t: usize, found: Option<usize>, refusal: Refusal, below: B, rows: F)`
+// with closures `B: FnOnce(&mut P) -> Result<(), Fault>` and `F: FnOnce(&mut R)`, and clauses of what each asks and does; and a method
+// of `Plant` that moves the tokens unasked would be public with a `requires`, which no method of a plant may have.
 ghost use Rattle.std.specs.Prelude.{◌≡◌, ℕ, true, if◌then◌else◌};
 ghost use Rattle.layers.specs.Piles.{pile_of};
 ghost use Rattle.model.specs.Layer.{is_shut, layer_free, row_count, pile_begun, pile_finished, pile_gone_back};
@@ -31,70 +33,73 @@ impl<P: Plant, R: Rows> Plant for Layer<P, R> {
         }
     }
 
-    fn may_begin(&self, t: usize) -> Result<(), Fault> {
-        self.below.may_begin(t)?;
-        if self.is_shut() || !self.below.controllable(t) {
-            return Ok(());
+    #[tactic(auto, using(crate::proofs::Calls::short_is))]
+    fn short_place(&self, t: usize) -> Option<usize> {
+        match self.below.short_place(t) {
+            None if self.rows_take(t) => self.place_of(self.rows.short(t)),
+            found => found,
         }
-        self.refuse_at(Refusal::Short, t, self.rows.short(t))
     }
 
-    fn may_finish(&self, t: usize) -> Result<(), Fault> {
-        self.below.may_finish(t)?;
-        if self.is_shut() {
-            return Ok(());
+    #[tactic(auto, using(crate::proofs::Calls::over_give_is))]
+    fn over_by_give(&self, t: usize) -> Option<usize> {
+        match self.below.over_by_give(t) {
+            None if self.rows_give(t) => self.place_of(self.rows.over_by_give(t)),
+            found => found,
         }
-        self.refuse_at(Refusal::OverLimit, t, self.rows.over_by_give(t))
     }
 
-    fn may_back(&self, t: usize) -> Result<(), Fault> {
-        self.below.may_back(t)?;
-        if self.is_shut() || !self.below.controllable(t) {
-            return Ok(());
+    #[tactic(auto, using(crate::proofs::Calls::over_take_is))]
+    fn over_by_take(&self, t: usize) -> Option<usize> {
+        match self.below.over_by_take(t) {
+            None if self.rows_take(t) => self.place_of(self.rows.over_by_take(t)),
+            found => found,
         }
-        self.refuse_at(Refusal::OverLimit, t, self.rows.over_by_take(t))
     }
 
     fn begin(&mut self, t: usize) -> Result<(), Fault>
-        ensures answer { result ≡ begin_answer (⟦<Layer<P, R> as Net>⟧.net self.old) (⟦<Layer<P, R> as Plant>⟧.tokens self.old) t }
-        ensures same { ⟦<Layer<P, R> as Net>⟧.net self.new ≡ ⟦<Layer<P, R> as Net>⟧.net self.old }
-        ensures after { ⟦<Layer<P, R> as Plant>⟧.tokens self.new ≡ begun (⟦<Layer<P, R> as Net>⟧.net self.old) (⟦<Layer<P, R> as Plant>⟧.tokens self.old) t }
-        ensures whole { ⟦<Layer<P, R> as Plant>⟧.pile self.new ≡ (if accepted result then pile_begun (⟦<Layer<P, R> as Plant>⟧.pile self.old) t else ⟦<Layer<P, R> as Plant>⟧.pile self.old) }
+        ensures answer { result ≡ begin_answer (⟦<Self as Net>⟧.net self.old) (⟦<Self as Plant>⟧.tokens self.old) t }
+        ensures same { ⟦<Self as Net>⟧.net self.new ≡ ⟦<Self as Net>⟧.net self.old }
+        ensures after { ⟦<Self as Plant>⟧.tokens self.new ≡ begun (⟦<Self as Net>⟧.net self.old) (⟦<Self as Plant>⟧.tokens self.old) t }
+        ensures whole { ⟦<Self as Plant>⟧.pile self.new ≡ (if accepted result then pile_begun (⟦<Self as Plant>⟧.pile self.old) t else ⟦<Self as Plant>⟧.pile self.old) }
         ensures shut { is_shut (row_count R.Rows.top) (P.Net.net self.old.below) ≡ true → R.Rows.rows self.new.rows ≡ R.Rows.rows self.old.rows }
     {
-        self.may_begin(t)?;
+        self.known(t)?;
+        self.refuse_at(Refusal::Short, t, self.short_place(t))?;
         self.below.begin(t)?;
-        if !self.is_shut() && self.below.controllable(t) {
+        if self.rows_take(t) {
             self.rows.begin(t);
         }
         Ok(())
     }
 
     fn finish(&mut self, t: usize) -> Result<(), Fault>
-        ensures answer { result ≡ finish_answer (⟦<Layer<P, R> as Net>⟧.net self.old) (⟦<Layer<P, R> as Plant>⟧.tokens self.old) t }
-        ensures same { ⟦<Layer<P, R> as Net>⟧.net self.new ≡ ⟦<Layer<P, R> as Net>⟧.net self.old }
-        ensures after { ⟦<Layer<P, R> as Plant>⟧.tokens self.new ≡ finished (⟦<Layer<P, R> as Net>⟧.net self.old) (⟦<Layer<P, R> as Plant>⟧.tokens self.old) t }
-        ensures whole { ⟦<Layer<P, R> as Plant>⟧.pile self.new ≡ (if accepted result then pile_finished (⟦<Layer<P, R> as Plant>⟧.pile self.old) t else ⟦<Layer<P, R> as Plant>⟧.pile self.old) }
+        ensures answer { result ≡ finish_answer (⟦<Self as Net>⟧.net self.old) (⟦<Self as Plant>⟧.tokens self.old) t }
+        ensures same { ⟦<Self as Net>⟧.net self.new ≡ ⟦<Self as Net>⟧.net self.old }
+        ensures after { ⟦<Self as Plant>⟧.tokens self.new ≡ finished (⟦<Self as Net>⟧.net self.old) (⟦<Self as Plant>⟧.tokens self.old) t }
+        ensures whole { ⟦<Self as Plant>⟧.pile self.new ≡ (if accepted result then pile_finished (⟦<Self as Plant>⟧.pile self.old) t else ⟦<Self as Plant>⟧.pile self.old) }
         ensures shut { is_shut (row_count R.Rows.top) (P.Net.net self.old.below) ≡ true → R.Rows.rows self.new.rows ≡ R.Rows.rows self.old.rows }
     {
-        self.may_finish(t)?;
+        self.known(t)?;
+        self.refuse_at(Refusal::OverLimit, t, self.over_by_give(t))?;
         self.below.finish(t)?;
-        if !self.is_shut() {
+        if self.rows_give(t) {
             self.rows.finish(t);
         }
         Ok(())
     }
 
     fn back(&mut self, t: usize) -> Result<(), Fault>
-        ensures answer { result ≡ back_answer (⟦<Layer<P, R> as Net>⟧.net self.old) (⟦<Layer<P, R> as Plant>⟧.tokens self.old) t }
-        ensures same { ⟦<Layer<P, R> as Net>⟧.net self.new ≡ ⟦<Layer<P, R> as Net>⟧.net self.old }
-        ensures after { ⟦<Layer<P, R> as Plant>⟧.tokens self.new ≡ gone_back (⟦<Layer<P, R> as Net>⟧.net self.old) (⟦<Layer<P, R> as Plant>⟧.tokens self.old) t }
-        ensures whole { ⟦<Layer<P, R> as Plant>⟧.pile self.new ≡ (if accepted result then pile_gone_back (⟦<Layer<P, R> as Plant>⟧.pile self.old) t else ⟦<Layer<P, R> as Plant>⟧.pile self.old) }
+        ensures answer { result ≡ back_answer (⟦<Self as Net>⟧.net self.old) (⟦<Self as Plant>⟧.tokens self.old) t }
+        ensures same { ⟦<Self as Net>⟧.net self.new ≡ ⟦<Self as Net>⟧.net self.old }
+        ensures after { ⟦<Self as Plant>⟧.tokens self.new ≡ gone_back (⟦<Self as Net>⟧.net self.old) (⟦<Self as Plant>⟧.tokens self.old) t }
+        ensures whole { ⟦<Self as Plant>⟧.pile self.new ≡ (if accepted result then pile_gone_back (⟦<Self as Plant>⟧.pile self.old) t else ⟦<Self as Plant>⟧.pile self.old) }
         ensures shut { is_shut (row_count R.Rows.top) (P.Net.net self.old.below) ≡ true → R.Rows.rows self.new.rows ≡ R.Rows.rows self.old.rows }
     {
-        self.may_back(t)?;
+        self.known(t)?;
+        self.refuse_at(Refusal::OverLimit, t, self.over_by_take(t))?;
         self.below.back(t)?;
-        if !self.is_shut() && self.below.controllable(t) {
+        if self.rows_take(t) {
             self.rows.back(t);
         }
         Ok(())

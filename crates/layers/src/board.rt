@@ -1,6 +1,6 @@
 // The board: a layer of twelve rows.
 ghost use Rattle.std.specs.Prelude.{◌≡◌, ℕ, Ok, Err};
-ghost use Rattle.layers.specs.Piles.{board_pile, Fresh};
+ghost use Rattle.layers.specs.Piles.{Fresh};
 ghost use Rattle.layers.specs.Setting.{SetTo};
 ghost use Rattle.model.specs.Layer.{board, board_answer};
 ghost use Rattle.rules.specs.Rules.{rule_of};
@@ -20,24 +20,21 @@ impl<P: Plant> Board<P> {
     // A board over the plant, with no rules yet.
     pub fn new(below: P) -> Self
         ensures below { result.below ≡ below }
-        ensures fresh { Fresh board (P.Net.net below) (P.Plant.tokens below) (board_pile P.Net.net P.Plant.tokens result) }
+        ensures fresh { Fresh board (P.Net.net below) (P.Plant.tokens below) (⟦<Self as Plant>⟧.pile result) }
     {
-        Layer {
-            below,
-            rows: Table::blank(),
-        }
+        Self::blank(below)
     }
 
     // Whether the row `r` has a rule; a missing row has none.
     pub fn in_use(&self, r: usize) -> bool
-        ensures { result ≡ ((board_pile P.Net.net P.Plant.tokens self.now).rows r).in_use }
+        ensures { result ≡ ((⟦<Self as Plant>⟧.pile self.now).rows r).in_use }
     {
         self.row_in_use(r)
     }
 
     // What `set` would answer now.
     pub fn may_set(&self, r: usize, typed: &TypedRule) -> Result<(), Fault>
-        ensures { result ≡ board_answer (board_pile P.Net.net P.Plant.tokens self.now) r (rule_of typed.now) }
+        ensures { result ≡ board_answer (⟦<Self as Plant>⟧.pile self.now) r (rule_of typed.now) }
     {
         Fault::of_setting(Refusal::NoRow).unless(r < BOARD_ROWS)?;
         self.check_rule(r, typed).map(|_| ())
@@ -45,10 +42,10 @@ impl<P: Plant> Board<P> {
 
     // Sets the row `r` to the rule, worked over the plant below, or answers why not; a refused rule changes nothing.
     pub fn set(&mut self, r: usize, typed: &TypedRule) -> Result<(), Fault>
-        ensures answer { result ≡ board_answer (board_pile P.Net.net P.Plant.tokens self.old) r (rule_of typed.now) }
+        ensures answer { result ≡ board_answer (⟦<Self as Plant>⟧.pile self.old) r (rule_of typed.now) }
         ensures below { self.new.below ≡ self.old.below }
         ensures refused { (f : Fault) → result ≡ Err f → self.new ≡ self.old }
-        ensures set { result ≡ Ok tt → SetTo (board_pile P.Net.net P.Plant.tokens self.old) (board_pile P.Net.net P.Plant.tokens self.new) r (rule_of typed.now) }
+        ensures set { result ≡ Ok tt → SetTo (⟦<Self as Plant>⟧.pile self.old) (⟦<Self as Plant>⟧.pile self.new) r (rule_of typed.now) }
     {
         Fault::of_setting(Refusal::NoRow).unless(r < BOARD_ROWS)?;
         self.set_row(r, typed)

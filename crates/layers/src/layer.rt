@@ -1,12 +1,10 @@
 // A layer: rows put on a plant, and where their places are.
-ghost use Rattle.std.specs.Prelude.{◌≡◌, ℕ, ◌<◌, IfSome};
+ghost use Rattle.std.specs.Prelude.{◌≡◌, ℕ, ◌+◌, ◌<◌, ◌&&◌, not, nat_lt, option_map, IfSome};
 ghost use Rattle.layers.specs.Layers.{own_row};
-ghost use Rattle.model.specs.Layer.{is_shut, next_layer, row_count, row_fault};
-ghost use Rattle.model.specs.Plant.{refuse_at};
+ghost use Rattle.model.specs.Layer.{is_shut, next_layer, row_count};
 
 use crate::rows::Rows;
-use model::fault::{Fault, Spot};
-use model::refusal::Refusal;
+use crate::table::Table;
 use model::sizes::MOST_ALL_PLACES;
 use plant::plant::Plant;
 
@@ -48,27 +46,42 @@ impl<P: Plant, R: Rows> Layer<P, R> {
         next
     }
 
-    // Refused for the move `t` at the row that was found, if one was.
-    // Kept: a `match`, since `map_or` would take the same two arms, the longer one first.
-    pub(crate) fn refuse_at(
-        &self,
-        refusal: Refusal,
-        t: usize,
-        found: Option<usize>,
-    ) -> Result<(), Fault>
-        requires { IfSome found (λ r. r < row_count R.Rows.top) }
-        ensures { result ≡ refuse_at (row_fault (P.Net.net self.now.below) refusal t) found }
+    // Whether the move `t` may take from the rows: a shut layer has none, and an uncontrollable move takes nothing there.
+    pub(crate) fn rows_take(&self, t: usize) -> bool
+        ensures { result ≡ (not (is_shut (row_count R.Rows.top) (P.Net.net self.now.below)) && (P.Net.net self.now.below).controllable t) }
     {
-        match found {
-            Some(r) => {
-                let spot = Spot {
-                    place: self.below.places() + r,
-                    layer: self.next_layer(),
-                    row: r,
-                };
-                Err(Fault::at(refusal, t, spot))
-            }
-            None => Ok(()),
+        !self.is_shut() && self.below.controllable(t)
+    }
+
+    // Whether the move `t` may give to the rows: a shut layer has none, and a missing move gives nothing.
+    pub(crate) fn rows_give(&self, t: usize) -> bool
+        ensures { result ≡ (not (is_shut (row_count R.Rows.top) (P.Net.net self.now.below)) && nat_lt t (P.Net.net self.now.below).moves) }
+    {
+        !self.is_shut() && t < self.below.moves()
+    }
+
+    // The place of the row that was found, if one was.
+    pub(crate) fn place_of(&self, found: Option<usize>) -> Option<usize>
+        requires { IfSome found (λ r. r < row_count R.Rows.top) }
+        ensures { result ≡ option_map (λ r. (P.Net.net self.now.below).places + r) found }
+    {
+        found.map(|r| self.below.places() + r)
+    }
+}
+
+impl<P: Plant, const N: usize> Layer<P, Table<N>> {
+    ghost use Rattle.layers.specs.Piles.{Fresh};
+    ghost use Rattle.layers.specs.Rows.{top_of};
+
+    // A layer over the plant, of rows without rules.
+    pub(crate) fn blank(below: P) -> Self
+        requires { row_count (top_of N) ≡ N }
+        ensures below { result.below ≡ below }
+        ensures fresh { Fresh (top_of N) (P.Net.net below) (P.Plant.tokens below) (⟦<Self as Plant>⟧.pile result) }
+    {
+        Layer {
+            below,
+            rows: Table::blank(),
         }
     }
 }

@@ -1,6 +1,6 @@
 // The fixed monitor: a layer of one row.
 ghost use Rattle.std.specs.Prelude.{◌≡◌, ℕ, Ok, Err};
-ghost use Rattle.layers.specs.Piles.{monitor_pile, Fresh};
+ghost use Rattle.layers.specs.Piles.{Fresh};
 ghost use Rattle.layers.specs.Setting.{SetTo};
 ghost use Rattle.model.specs.Layer.{monitor, monitor_answer};
 ghost use Rattle.rules.specs.Rules.{rule_of};
@@ -18,34 +18,31 @@ impl<P: Plant> Monitor<P> {
     // A monitor over the plant, with no rule yet.
     pub fn new(below: P) -> Self
         ensures below { result.below ≡ below }
-        ensures fresh { Fresh monitor (P.Net.net below) (P.Plant.tokens below) (monitor_pile P.Net.net P.Plant.tokens result) }
+        ensures fresh { Fresh monitor (P.Net.net below) (P.Plant.tokens below) (⟦<Self as Plant>⟧.pile result) }
     {
-        Layer {
-            below,
-            rows: Table::blank(),
-        }
+        Self::blank(below)
     }
 
     // Whether its rule is set.
     pub fn in_use(&self) -> bool
-        ensures { result ≡ ((monitor_pile P.Net.net P.Plant.tokens self.now).rows 0).in_use }
+        ensures { result ≡ ((⟦<Self as Plant>⟧.pile self.now).rows 0).in_use }
     {
         self.row_in_use(0)
     }
 
     // What `set` would answer now.
     pub fn may_set(&self, typed: &TypedRule) -> Result<(), Fault>
-        ensures { result ≡ monitor_answer (monitor_pile P.Net.net P.Plant.tokens self.now) (rule_of typed.now) }
+        ensures { result ≡ monitor_answer (⟦<Self as Plant>⟧.pile self.now) (rule_of typed.now) }
     {
         self.check_rule(0, typed).map(|_| ())
     }
 
     // Sets its rule, worked over the plant below, or answers why not; a refused rule changes nothing.
     pub fn set(&mut self, typed: &TypedRule) -> Result<(), Fault>
-        ensures answer { result ≡ monitor_answer (monitor_pile P.Net.net P.Plant.tokens self.old) (rule_of typed.now) }
+        ensures answer { result ≡ monitor_answer (⟦<Self as Plant>⟧.pile self.old) (rule_of typed.now) }
         ensures below { self.new.below ≡ self.old.below }
         ensures refused { (f : Fault) → result ≡ Err f → self.new ≡ self.old }
-        ensures set { result ≡ Ok tt → SetTo (monitor_pile P.Net.net P.Plant.tokens self.old) (monitor_pile P.Net.net P.Plant.tokens self.new) 0 (rule_of typed.now) }
+        ensures set { result ≡ Ok tt → SetTo (⟦<Self as Plant>⟧.pile self.old) (⟦<Self as Plant>⟧.pile self.new) 0 (rule_of typed.now) }
     {
         self.set_row(0, typed)
     }

@@ -1,6 +1,5 @@
 // Setting a row of a layer to a rule.
 ghost use Rattle.std.specs.Prelude.{◌≡◌, ℕ, ◌<◌, ◌≤◌, pos, Ok, Err, slice_index_or, unsigned_abs};
-ghost use Rattle.layers.specs.Piles.{pile_of};
 ghost use Rattle.layers.specs.Setting.{Checks, SetTo};
 ghost use Rattle.model.specs.Layer.{row_count, top_answer};
 ghost use Rattle.model.specs.Rule.{raise as raise_of};
@@ -30,14 +29,14 @@ fn raises<N: Net>(rule: &WorkedRule, net: &N) -> [i32; MOST_MOVES]
 impl<P: Plant, R: Rows> Layer<P, R> {
     // Whether the row `r` has a rule; a missing row has none, and a shut layer has no rows.
     pub(crate) fn row_in_use(&self, r: usize) -> bool
-        ensures { result ≡ ((pile_of R.Rows.top P.Net.net P.Plant.tokens R.Rows.rows self.now).rows r).in_use }
+        ensures { result ≡ ((⟦<Self as Plant>⟧.pile self.now).rows r).in_use }
     {
         !self.is_shut() && self.rows.in_use(r)
     }
 
     // The rule that the row `r` would be set to, or why it would not: nothing is changed.
     pub(crate) fn check_rule(&self, r: usize, typed: &TypedRule) -> Result<WorkedRule, Fault>
-        ensures { Checks (pile_of R.Rows.top P.Net.net P.Plant.tokens R.Rows.rows self.now) r (rule_of typed.now) (answer_of result) }
+        ensures { Checks (⟦<Self as Plant>⟧.pile self.now) r (rule_of typed.now) (answer_of result) }
     {
         Fault::of_setting(Refusal::Shut).unless(!self.is_shut())?;
         Fault::of_setting(Refusal::RowInUse).unless(!self.rows.in_use(r))?;
@@ -49,10 +48,10 @@ impl<P: Plant, R: Rows> Layer<P, R> {
     // Sets the row `r` to the rule, or answers why not.
     pub(crate) fn set_row(&mut self, r: usize, typed: &TypedRule) -> Result<(), Fault>
         requires { r < row_count R.Rows.top }
-        ensures answer { result ≡ top_answer (pile_of R.Rows.top P.Net.net P.Plant.tokens R.Rows.rows self.old) r (rule_of typed.now) }
+        ensures answer { result ≡ top_answer (⟦<Self as Plant>⟧.pile self.old) r (rule_of typed.now) }
         ensures below { self.new.below ≡ self.old.below }
         ensures refused { (f : Fault) → result ≡ Err f → self.new ≡ self.old }
-        ensures set { result ≡ Ok tt → SetTo (pile_of R.Rows.top P.Net.net P.Plant.tokens R.Rows.rows self.old) (pile_of R.Rows.top P.Net.net P.Plant.tokens R.Rows.rows self.new) r (rule_of typed.now) }
+        ensures set { result ≡ Ok tt → SetTo (⟦<Self as Plant>⟧.pile self.old) (⟦<Self as Plant>⟧.pile self.new) r (rule_of typed.now) }
     {
         let rule = self.check_rule(r, typed)?;
         let raises = raises(&rule, &self.below);

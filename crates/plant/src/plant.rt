@@ -1,6 +1,6 @@
 // What moves: a net with tokens.
 ghost use Rattle.std.specs.Prelude.{◌≡◌, ℕ, ◌≤◌, if◌then◌else◌};
-ghost use Rattle.model.specs.Plant.{accepted, begin_answer, finish_answer, back_answer, begun, finished, gone_back};
+ghost use Rattle.model.specs.Plant.{accepted, short_place, over_place, begin_answer, finish_answer, back_answer, begun, finished, gone_back};
 ghost use Rattle.model.specs.Layer.{Pile, pile_net, pile_free, pile_begun, pile_finished, pile_gone_back};
 
 use crate::find::lowest;
@@ -19,37 +19,58 @@ pub trait Plant: Net {
     fn free(&self, p: usize) -> u32
         ensures { result ≡ tokens self.now p };
 
+    // This search and the two after it go over all places; a plant that knows where to look answers them faster.
+
+    // The lowest place that is short of what the move `t` takes there.
+    fn short_place(&self, t: usize) -> Option<usize>
+        ensures { result ≡ short_place (Self.Net.net self.now) (tokens self.now) t }
+    {
+        lowest(self.places(), |p| self.free(p) < self.take(p, t))
+    }
+
+    // The lowest place that has no room for what the move `t` gives there.
+    // Kept: this and the next differ in `give` and `take`; one function of both would take a closure, with more clauses than lines here.
+    fn over_by_give(&self, t: usize) -> Option<usize>
+        ensures { result ≡ over_place (Self.Net.net self.now) (tokens self.now) (λ p. (Self.Net.net self.now).give p t) }
+    {
+        lowest(
+            self.places(),
+            |p| self.limit(p) - self.free(p) < self.give(p, t),
+        )
+    }
+
+    // The lowest place that has no room for what the move `t` takes there.
+    fn over_by_take(&self, t: usize) -> Option<usize>
+        ensures { result ≡ over_place (Self.Net.net self.now) (tokens self.now) (λ p. (Self.Net.net self.now).take p t) }
+    {
+        lowest(
+            self.places(),
+            |p| self.limit(p) - self.free(p) < self.take(p, t),
+        )
+    }
+
     // What `begin` would answer now.
-    fn may_begin(&self, t: usize) -> Result<(), Fault>
+    final fn may_begin(&self, t: usize) -> Result<(), Fault>
         ensures { result ≡ begin_answer (Self.Net.net self.now) (tokens self.now) t }
     {
         self.known(t)?;
-        let short = lowest(self.places(), |p| self.free(p) < self.take(p, t));
-        self.refuse_at(Refusal::Short, t, short)
+        self.refuse_at(Refusal::Short, t, self.short_place(t))
     }
 
     // What `finish` would answer now.
-    fn may_finish(&self, t: usize) -> Result<(), Fault>
+    final fn may_finish(&self, t: usize) -> Result<(), Fault>
         ensures { result ≡ finish_answer (Self.Net.net self.now) (tokens self.now) t }
     {
         self.known(t)?;
-        let over = lowest(
-            self.places(),
-            |p| self.limit(p) - self.free(p) < self.give(p, t),
-        );
-        self.refuse_at(Refusal::OverLimit, t, over)
+        self.refuse_at(Refusal::OverLimit, t, self.over_by_give(t))
     }
 
     // What `back` would answer now.
-    fn may_back(&self, t: usize) -> Result<(), Fault>
+    final fn may_back(&self, t: usize) -> Result<(), Fault>
         ensures { result ≡ back_answer (Self.Net.net self.now) (tokens self.now) t }
     {
         self.known(t)?;
-        let over = lowest(
-            self.places(),
-            |p| self.limit(p) - self.free(p) < self.take(p, t),
-        );
-        self.refuse_at(Refusal::OverLimit, t, over)
+        self.refuse_at(Refusal::OverLimit, t, self.over_by_take(t))
     }
 
     // Takes the tokens of the move `t` from its places, or answers at which place they are short.

@@ -1,10 +1,11 @@
-use Rattle.std.proofs.Common.{sym, ap, ◌∙◌}
-use Rattle.model.specs.Plant.{finish_answer}
-use Rattle.model.specs.Layer.{row_count, is_shut, layer_net, layer_free, rows_finish}
+use Rattle.std.proofs.Common.{◌+◌, not, ◌&&◌, ltb, sym, ap, ◌∙◌}
+use Rattle.std.proofs.lemmas.Bool.{ltb-false}
+use Rattle.model.specs.declared.refusal.Refusal.TheVariants.{OverLimit}
+use Rattle.model.specs.Net.{Net}
+use Rattle.model.specs.Sizes.{control_limit}
+use Rattle.model.specs.Layer.{row_count, is_shut}
 use Rattle.model.proofs.Checks.{err_not_ok}
-use Rattle.model.proofs.LayerCalls.{layer_begins}
-use Rattle.plant.proofs.Answering.{fits}
-use Rattle.layers.proofs.Calls.{accepted_below, accepted_own, finish_fits}
+use Rattle.layers.proofs.Calls.{over_give_is, ok_below, none_in_rows}
 use Rattle.layers.proofs.as_plant.LayerPlant.finish.Goals as goal
 
 -- accepted as a whole, so not refused below
@@ -15,16 +16,16 @@ returns-in_err-finish g c =
     let n = g.P.Net.net s.below in
     let free = g.P.Plant.tokens s.below in
     let rows = g.R.Rows.rows s.rows in
-    let ok = c.in_ok-may_finish.ensures in
-    absurd (err_not_ok _ (c.in_err-finish.ensures.answer ∙ accepted_below size n (finish_answer (layer_net size n rows) (layer_free size n free rows) c.args.t) (finish_answer n free c.args.t) (rows_finish size n rows c.args.t) (layer_begins size n free rows c.args.t).1 ok))
+    let is = over_give_is size n free rows c.args.t (λ r. (g.met.R.Rows.kept s.rows r).low) in
+    absurd (err_not_ok _ (c.in_err-finish.ensures.answer ∙ sym (ok_below size n free rows c.args.t OverLimit (λ r. ltb control_limit ((rows r).free + (rows r).give c.args.t)) (not (is_shut size n) && ltb c.args.t n.moves) _ _ (c.over_by_give.ensures ∙ is) c.in_ok-known.ensures c.in_ok-refuse_at.ensures)))
 
-pub finish-requires-then-not-is_shut : goal.finish-requires-then-not-is_shut
-finish-requires-then-not-is_shut g c =
+pub finish-requires-then-rows_give : goal.finish-requires-then-rows_give
+finish-requires-then-rows_give g c =
     let s = c.args.self.now in
     let size = row_count g.R.Rows.top in
     let n = g.P.Net.net s.below in
     let free = g.P.Plant.tokens s.below in
     let rows = g.R.Rows.rows s.rows in
-    let ok = c.in_ok-may_finish.ensures in
-    let clear = (ap (is_shut size) (sym c.finish.ensures.same) ∙ sym c.if-not-is_shut.ensures) in
-    finish_fits size n rows c.args.t (fits n free (λ p. n.give p c.args.t) c.args.t (sym (accepted_below size n (finish_answer (layer_net size n rows) (layer_free size n free rows) c.args.t) (finish_answer n free c.args.t) (rows_finish size n rows c.args.t) (layer_begins size n free rows c.args.t).1 ok))).0 (accepted_own size n (finish_answer (layer_net size n rows) (layer_free size n free rows) c.args.t) (finish_answer n free c.args.t) (rows_finish size n rows c.args.t) (layer_begins size n free rows c.args.t).1 clear ok)
+    let is = over_give_is size n free rows c.args.t (λ r. (g.met.R.Rows.kept s.rows r).low) in
+    let counts = c.if-rows_give.ensures ∙ ap (λ (m : Net). not (is_shut size m) && ltb c.args.t m.moves) c.finish.ensures.same in
+    λ r l. ltb-false control_limit ((rows r).free + (rows r).give c.args.t) (none_in_rows size n free rows c.args.t OverLimit (λ r. ltb control_limit ((rows r).free + (rows r).give c.args.t)) (not (is_shut size n) && ltb c.args.t n.moves) _ _ (c.over_by_give.ensures ∙ is) c.in_ok-known.ensures c.in_ok-refuse_at.ensures counts r l)

@@ -1,6 +1,0 @@
-use Rattle.model.specs.Layer.{monitor}
-use Rattle.layers.proofs.Fresh.{fresh}
-use Rattle.layers.proofs.monitor.Monitor+P.new.Goals as goal
-
-pub returns-clause-fresh : goal.returns-clause-fresh
-returns-clause-fresh g c = fresh monitor (g.P.Net.net c.args.below) (g.P.Plant.tokens c.args.below) _ c.blank.ensures
