@@ -22,6 +22,7 @@ impl<P: Plant> Ledger<Board<P>> {
     }
 
     // What `admit` would answer now.
+    // Kept: this asks and `admit` changes, so that one function of both would have to take the ledger by a mutable reference to ask.
     pub fn may_admit(&self, r: usize, rule: &TypedRule) -> Result<(), Fault>
         ensures { result ≡ answer (value_of self.now) (admit r (rule_of rule.now)) }
     {

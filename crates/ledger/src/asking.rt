@@ -76,6 +76,7 @@ impl<P: Plant> Ledger<P> {
     }
 
     // What `commit` would answer now.
+    // Kept: this and `may_cancel` share `check_open` and add one question of the pile each; one function would take it as a closure.
     pub fn may_commit(&self, t: usize) -> Result<(), Fault>
         ensures { result ≡ answer (value_of self.now) (commit t) }
     {

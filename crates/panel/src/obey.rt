@@ -1,7 +1,7 @@
 // Orders on a ledger, each with the line that it prints.
 ghost use Rattle.std.specs.Prelude.{◌≡◌, ◌++◌, OnOk};
 ghost use Rattle.formats.specs.Words.{fields, lines};
-ghost use Rattle.ledger.specs.Ledgers.{ledger_of};
+ghost use Rattle.ledger.specs.Values.{value_of};
 ghost use Rattle.panel.specs.Orders.{order_of, answer_line, obeyed, next_ledger, answers};
 ghost use Rattle.panel.specs.Said.{cell_said};
 
@@ -43,8 +43,8 @@ fn obey<P: Plant>(
     ledger: &mut Ledger<Board<P>>,
     line: &[u8],
 ) -> Result<(), AllocError>
-    ensures printed { OnOk result (out.new.items ≡ out.old.items ++ obeyed (cell_said said.now) (ledger_of (⟦<Board<P> as Plant>⟧.pile ledger.old.pile) ledger.old.grants) (order_of (cell_said said.now) (fields line.now))) }
-    ensures after { OnOk result (ledger_of (⟦<Board<P> as Plant>⟧.pile ledger.new.pile) ledger.new.grants ≡ next_ledger (ledger_of (⟦<Board<P> as Plant>⟧.pile ledger.old.pile) ledger.old.grants) (order_of (cell_said said.now) (fields line.now))) }
+    ensures printed { OnOk result (out.new.items ≡ out.old.items ++ obeyed (cell_said said.now) (value_of ledger.old) (order_of (cell_said said.now) (fields line.now))) }
+    ensures after { OnOk result (value_of ledger.new ≡ next_ledger (value_of ledger.old) (order_of (cell_said said.now) (fields line.now))) }
 {
     match read_order(said, line) {
         Ok(Order::Make(call)) => put_answer(out, said, ledger.make(&call)),
@@ -60,7 +60,7 @@ pub(crate) fn obey_all<P: Plant>(
     ledger: &mut Ledger<Board<P>>,
     orders: &[u8],
 ) -> Result<(), AllocError>
-    ensures { OnOk result (out.new.items ≡ out.old.items ++ answers (cell_said said.now) (ledger_of (⟦<Board<P> as Plant>⟧.pile ledger.old.pile) ledger.old.grants) (lines orders.now)) }
+    ensures { OnOk result (out.new.items ≡ out.old.items ++ answers (cell_said said.now) (value_of ledger.old) (lines orders.now)) }
 {
     for (_, line) in Lines::new(orders) {
         obey(out, said, ledger, line)?;
