@@ -1,11 +1,11 @@
 -- For code that goes through a text by indexes: what the reader's lists are at an index.
-use Rattle.std.proofs.Common.{◌≡◌, ℕ, suc, ◌+◌, ◌-◌, ◌<◌, ◌≤◌, Bool, true, false, cond, not, eqb, List, [], ◌∷◌, length, get_or, take, drop, Some, None, Option, sym, refl, ap, ◌∙◌, ap₂, arith}
+use Rattle.std.proofs.Common.{◌≡◌, ℕ, suc, ◌+◌, ◌-◌, ◌<◌, ◌≤◌, Bool, true, false, cond, not, eqb, List, [], ◌∷◌, length, get_or, take, drop, Some, None, sym, refl, ap, ◌∙◌, arith}
 use Rattle.std.specs.List.{prefix_len}
-use Rattle.std.proofs.lemmas.List.{drop-drop, drop_more, drop_all, length-drop, take_all}
+use Rattle.std.proofs.lemmas.List.{drop_more, drop_all}
 use Rattle.std.proofs.lemmas.Bool.{cond-true, cond-false, eqb-true, not_from_true, not_from_false}
 use Rattle.model.specs.declared.refusal.Refusal.TheVariants.{Byte}
 use Rattle.formats.specs.Words.{is_not, onto, fields, lines, last, is_allowed}
-use Rattle.formats.specs.Texts.{fault, bad_byte, Reader, first_failed, ended, unless, read_lines}
+use Rattle.formats.specs.Texts.{fault, bad_byte}
 use Rattle.formats.proofs.Pieces.{cut_at, uncut}
 use Rattle.formats.specs.Sums.{piece, is_sign, put, pieces}
 
@@ -20,28 +20,6 @@ last_is (b ∷ c ∷ bs) h =
 -- ---- lines
 pub lines_cut : (t : List ℕ) → prefix_len (is_not 10) t < length t → lines t ≡ take (prefix_len (is_not 10) t) t ∷ lines (drop (prefix_len (is_not 10) t + 1) t)
 lines_cut t h = cut_at (λ b. eqb b 10) (λ l. l) onto (λ b l ys. refl) lines (λ b bs. lines bs) (λ b bs. refl) t h
-
--- from the byte s on, where e is the end of the line
-pub lines_at : (t : List ℕ) (s e : ℕ) → e ≡ s + prefix_len (is_not 10) (drop s t) → e < length t → lines (drop s t) ≡ take (e - s) (drop s t) ∷ lines (drop (e + 1) t)
-lines_at t s e q h =
-    let l = prefix_len (is_not 10) (drop s t) in
-    lines_cut (drop s t) (omega (arith, length-drop s t))
-    ∙ ap₂ (λ (i : ℕ) (r : List ℕ). take i (drop s t) ∷ lines r) (omega arith) (drop-drop (l + 1) s t ∙ ap (λ (j : ℕ). drop j t) (omega arith))
-
-pub lines_end : (t : List ℕ) (s : ℕ) → length t ≤ s → lines (drop s t) ≡ []
-lines_end t s h = ap lines (drop_all s t h)
-
--- one turn of a loop over the lines
-pub read_at : {X : Type 0} (R : Reader X) (v : Option X) (k : ℕ) (t : List ℕ) (s e : ℕ) → e ≡ s + prefix_len (is_not 10) (drop s t) → e < length t → s ≤ e
-    → read_lines R v k s (lines (drop s t)) ≡ unless (first_failed (R.checks v s (fields (take (e - s) (drop s t))))) k (read_lines R (Some (R.after v (fields (take (e - s) (drop s t))))) (k + 1) (e + 1) (lines (drop (e + 1) t)))
-read_at R v k t s e q h le =
-    let l = take (e - s) (drop s t) in
-    let n : s + length l + 1 ≡ e + 1 = omega (arith, Rattle.std.proofs.lemmas.List.length-take-le (e - s) (drop s t) (omega (arith, length-drop s t)), length-drop s t) in
-    ap (λ (z : List (List ℕ)). read_lines R v k s z) (lines_at t s e q h)
-    ∙ ap (λ (j : ℕ). unless (first_failed (R.checks v s (fields l))) k (read_lines R (Some (R.after v (fields l))) (k + 1) j (lines (drop (e + 1) t)))) n
-
-pub read_end : {X : Type 0} (R : Reader X) (v : Option X) (k : ℕ) (t : List ℕ) (s : ℕ) → length t ≤ s → read_lines R v k s (lines (drop s t)) ≡ ended R v s
-read_end R v k t s h = ap (λ (z : List (List ℕ)). read_lines R v k s z) (lines_end t s h)
 
 -- ---- fields
 pub fields_cut : (t : List ℕ) → prefix_len (is_not 9) t < length t → fields t ≡ take (prefix_len (is_not 9) t) t ∷ fields (drop (prefix_len (is_not 9) t + 1) t)

@@ -95,12 +95,12 @@ agree_shape taken ps (Some x) at (a_rule n s b) = (Decides-ltb (length x.others)
 agree_shape taken ps (Some x) at neither = (refused, refl, refl, tt)
 
 -- ---- a line
-abbrev line_fields : RuleShape → List (List ℕ)
+abbrev pub line_fields : RuleShape → List (List ℕ)
 line_fields (a_fixed n s b) = codes "fixed" ∷ n ∷ s ∷ b ∷ []
 line_fields (a_rule n s b) = codes "rule" ∷ n ∷ s ∷ b ∷ []
 line_fields neither = []
 
-shape_is : (fs : List (List ℕ)) → (rule_shape fs ≡ neither) ⊎ (fs ≡ line_fields (rule_shape fs))
+pub shape_is : (fs : List (List ℕ)) → (rule_shape fs ≡ neither) ⊎ (fs ≡ line_fields (rule_shape fs))
 shape_is [] = inl refl
 shape_is (w ∷ []) = inl refl
 shape_is (w ∷ a ∷ []) = inl refl

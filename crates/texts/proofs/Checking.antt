@@ -1,8 +1,5 @@
 -- Checks in order, some at a time.
-use Rattle.std.proofs.Common.{◌≡◌, ℕ, suc, Bool, true, false, cond, eqb, List, [], ◌∷◌, ◌++◌, map, length, IsErrAnd, Some, Ok, Err, vec_items, vec_len, Option, Result, Vec, sym, refl, ap, ◌∙◌, arith}
-use Rattle.std.proofs.lemmas.List.{length-map}
-use Rattle.std.proofs.lemmas.Bool.{ne_eqb}
-use Rattle.formats.specs.Words.{none}
+use Rattle.std.proofs.Common.{◌≡◌, ℕ, Bool, true, false, cond, List, [], ◌∷◌, ◌++◌, IsErrAnd, Some, Ok, Err, Option, Result, sym, refl, ap, ◌∙◌, arith}
 use Rattle.formats.specs.declared.fault.TextFault.{TextFault}
 use Rattle.std.proofs.lemmas.Result.{err_from_is_err_and}
 use Rattle.formats.specs.Texts.{Check, first_failed, unless}
@@ -25,18 +22,6 @@ goes {A} (c ∷ cs) rest k v w e = go c.passes e (λ q. goes cs rest k v w q)
     go : (b : Bool) → Ok w ≡ unless (cond b (first_failed cs) (Some c)) k (Ok v) → (Ok w ≡ unless (first_failed cs) k (Ok v) → (w ≡ v) × (first_failed (cs ++ rest) ≡ first_failed rest)) → (w ≡ v) × (cond b (first_failed (cs ++ rest)) (Some c) ≡ first_failed rest)
     go true q r = r q
     go false q r = let z : ◌≡◌ {A = ℕ} 0 1 = cc in absurd (omega arith)
-
--- ---- what a Vec tells of the list that its items stand for
-module _ {X Y Z : Type 0} (f : X → Y) (v : Vec X Z) where
-  pub count_map : length (map f (vec_items v)) ≡ vec_len v
-  count_map = length-map (vec_items v) f ∙ sym v.ok.0
-
-  pub none_map : none (map f (vec_items v)) ≡ eqb (vec_len v) 0
-  none_map = none_is (map f (vec_items v)) ∙ ap (λ (n : ℕ). eqb n 0) count_map
-    where
-      none_is : (ys : List Y) → none ys ≡ eqb (length ys) 0
-      none_is [] = refl
-      none_is (y ∷ ys) = sym (ne_eqb (suc (length ys)) 0 (λ e. omega arith))
 
 -- the first checks pass, and one of the others fails
 pub then_stops : {A B : Type 0} (cs rest : List Check) (k : ℕ) (v w : A) (x : Result B TextFault) (f : TextFault) → Ok w ≡ checked cs k v → Err f ≡ unless (first_failed rest) k x → Err f ≡ unless (first_failed (cs ++ rest)) k x

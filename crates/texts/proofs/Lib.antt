@@ -3,6 +3,5 @@ pub mod Lining
 pub mod Naming
 pub mod Checking
 pub mod Standing
-pub mod Going
 pub mod Whole
 pub mod Walking

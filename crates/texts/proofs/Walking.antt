@@ -1,5 +1,5 @@
 -- The walk over the lines of a text.
-use Rattle.std.proofs.Common.{◌≡◌, ℕ, zero, suc, ◌+◌, ◌-◌, ◌<◌, ◌≤◌, Bool, true, false, cond, not, eqb, min, ◌⊎◌, List, [], ◌∷◌, ◌++◌, map, length, take, drop, Some, None, Ok, Err, Option, Result, sym, refl, ap, ◌∙◌, ap₂, inl, inr, arith}
+use Rattle.std.proofs.Common.{◌≡◌, ℕ, zero, suc, ◌+◌, ◌-◌, ◌<◌, ◌≤◌, Bool, true, false, cond, not, eqb, min, ◌⊎◌, List, [], ◌∷◌, ◌++◌, map, length, take, drop, Some, None, Ok, Option, Result, sym, refl, ap, ◌∙◌, ap₂, inl, inr, arith}
 use Rattle.std.specs.List.{prefix_len}
 use Rattle.std.proofs.lemmas.List.{length-append, length-take-le, take_all, drop_all, take_rest, drop_at, drop-drop}
 use Rattle.std.proofs.lemmas.Bool.{cases_lt}
@@ -11,7 +11,6 @@ use Rattle.formats.proofs.Pieces.{unlines_lines, unlines_append}
 use Rattle.texts.specs.declared.at.At.{At}
 use Rattle.texts.specs.Spans.{line_start}
 use Rattle.texts.specs.Walking.{line_at, numbered, numbered_lines, read_on}
-use Rattle.texts.proofs.Going.{by_shape, passes_on, fails_on}
 
 -- the last line of a text that does not end in a newline
 lines_last : (t : List ℕ) → 0 < length t → prefix_len (is_not 10) t ≡ length t → lines t ≡ t ∷ []
@@ -108,6 +107,15 @@ bytes_of at (l ∷ ls) = ap (λ (z : List (List ℕ)). l ∷ z) (bytes_of (line_
 pub record Comes {X : Type 0} (R : Reader X) (x : X) (n : ℕ) (ls : List (At × List ℕ)) (whole : Result X TextFault) : Type 0 where
   pub to : whole ≡ read_on R (Some x) n ls
 
+-- a reader that looks at the shape of a line
+abbrev pub by_shape : {X S : Type 0} → (List (List ℕ) → S) → (Option X → ℕ → S → List Check) → (Option X → S → X) → (X → Bool) → Reader X
+by_shape shape checks after is_whole = record { checks = λ s at fs. checks s at (shape fs); after = λ s fs. after s (shape fs); is_whole = is_whole }
+
+-- one line, by its checks o and the value y after it
+passes_on : {X : Type 0} (o : Option Check) (k : ℕ) (y z : X) (F : X → Result X TextFault) → unless o k (Ok y) ≡ Ok z → unless o k (F y) ≡ F z
+passes_on None k y z F e = let q : y ≡ z = cc in ap F q
+passes_on (Some c) k y z F e = let q : ◌≡◌ {A = ℕ} 0 1 = cc in absurd (omega arith)
+
 -- ---- one line of the shape m, for a reader that looks at shapes
 module _ {X S : Type 0} (shape : List (List ℕ) → S) (checks : Option X → ℕ → S → List Check) (after : Option X → S → X) (is_whole : X → Bool)
     {x : X} {n : ℕ} {ls rest : List (At × List ℕ)} {here : At} {l : List ℕ} {whole : Result X TextFault}
@@ -116,9 +124,6 @@ module _ {X S : Type 0} (shape : List (List ℕ) → S) (checks : Option X → �
   turn =
       g.to ∙ ap (read_on (by_shape shape checks after is_whole) (Some x) n) first
       ∙ ap (λ (k : S). unless (first_failed (checks (Some x) here.byte k)) here.line (read_on (by_shape shape checks after is_whole) (Some (after (Some x) k)) n rest)) shaped
-
-  pub line_refused : (f : TextFault) → unless (first_failed (checks (Some x) here.byte m)) here.line (Ok (after (Some x) m)) ≡ Err f → whole ≡ Err f
-  line_refused f e = turn ∙ fails_on (first_failed (checks (Some x) here.byte m)) here.line (after (Some x) m) (read_on (by_shape shape checks after is_whole) (Some (after (Some x) m)) n rest) f e
 
   pub line_passed : (y : X) → unless (first_failed (checks (Some x) here.byte m)) here.line (Ok (after (Some x) m)) ≡ Ok y → Comes (by_shape shape checks after is_whole) y n rest whole
   line_passed y e =

@@ -1,14 +1,10 @@
-use Rattle.std.proofs.Common.{ℕ, ◌+◌, List, length, drop, Some, Ok, Err, sym, ap, ◌∙◌, subst, arith}
-use Rattle.std.proofs.lemmas.Result.{err_from_is_err_and}
+use Rattle.std.proofs.Common.{ℕ, ◌+◌, List, drop, Ok, sym, ap, ◌∙◌, subst, arith}
 use Rattle.formats.specs.NetClauses.{Shape, shape}
-use Rattle.formats.specs.NetClauses.Shape.{no_record}
-use Rattle.formats.specs.ReadNet.{checks, after, is_whole, net_reader}
+use Rattle.formats.specs.ReadNet.{checks, after, is_whole}
 use Rattle.texts.specs.Lines.{shape_of}
-use Rattle.texts.specs.Walking.{numbered_lines, read_on, lines_left}
-use Rattle.net_text.specs.Nets.{net_of}
+use Rattle.texts.specs.Walking.{numbered_lines, lines_left}
 use Rattle.net_text.specs.Reading.{Step, Stands, Locates, line_count}
-use Rattle.texts.proofs.Going.{err_weaker}
-use Rattle.texts.proofs.Walking.{LineStands, stands, line_refused, line_passed}
+use Rattle.texts.proofs.Walking.{LineStands, stands, line_passed}
 use Rattle.net_text.proofs.Standing.{line_stands}
 use Rattle.net_text.proofs.read.NetReader.read_lines.Goals as goal
 use Rattle.net_text.proofs.read.NetReader.read_lines.Goals.{In-Some}
@@ -18,12 +14,6 @@ here : (c : In-Some) → LineStands c.args.self.now.text.now (line_count c.loop-
 here c =
     stands c.args.self.now.text.now (line_count c.loop-at.self.net + 1) c.in-Some.at c.in-Some.line.now (lines_left c.next.new.self) c.requires.text_bound.1
     (sym c.loop-at.invariant.left ∙ c.in-Some.ensures.steps)
-
-pub returns-in_err-read-clause-answer : goal.returns-in_err-read-clause-answer
-returns-in_err-read-clause-answer c =
-    let p = err_from_is_err_and c.from_residual.result c.from_residual.ensures.1 in
-    let r = c.in_err-read.ensures in
-    rw (p.1, p.2) (line_refused shape checks after is_whole c.loop-at.invariant.comes c.in-Some.ensures.steps no_record r.0 _ (ap Err (sym r.2)))
 
 pub add_record-requires : goal.add_record-requires
 add_record-requires c =
@@ -47,13 +37,3 @@ loop-at-preserved c =
       left = h.next ∙ ap (λ (i : ℕ). drop i (numbered_lines c.args.self.now.text.now)) (omega (arith, grown.1));
       located = grown.0;
     }
-
-pub returns-in_err-add_record-clause-answer : goal.returns-in_err-add_record-clause-answer
-returns-in_err-add_record-clause-answer c =
-    let p = err_from_is_err_and c.from_residual-in_err-add_record.result c.from_residual-in_err-add_record.ensures.1 in
-    let step = subst (λ (bs : List ℕ). Step bs c.loop-at.self.net c.add_record.new.self.net c.in-Some.at.line c.in-Some.at.byte (shape_of c.in_ok-read.read) (Err c.in_err-add_record.field-0.0)) c.loop-at.invariant.same c.in_err-add_record.ensures.step in
-    rw (p.1, p.2) (err_weaker _ _ _ _ _ (λ f q. line_refused shape checks after is_whole c.loop-at.invariant.comes c.in-Some.ensures.steps (shape_of c.in_ok-read.read) c.in_ok-read.ensures.0 f q) step)
-
-pub returns-clause-answer : goal.returns-clause-answer
-returns-clause-answer c =
-    c.loop-at.invariant.comes.to ∙ ap (read_on net_reader (Some (net_of c.args.self.now.text.now c.loop-at.self.net)) (length c.args.self.now.text.now)) c.in-None.ensures.steps.0

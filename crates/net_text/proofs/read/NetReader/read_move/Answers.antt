@@ -4,15 +4,6 @@ use Rattle.net_text.specs.Nets.{net_of}
 use Rattle.texts.proofs.Checking.{stops, then_stops, passed_on}
 use Rattle.net_text.proofs.read.NetReader.read_move.Goals as goal
 
-pub returns-in_err-check_move_line : goal.returns-in_err-check_move_line
-returns-in_err-check_move_line c =
-    let x = net_of c.args.self.now.text.now c.args.self.now.net in
-    let at = c.args.at.byte in
-    let names = name_checks x (at + 5) c.args.name.now in
-    let letters = letter_checks (at + 5 + length c.args.name.now + 1) c.args.letter.now in
-    passed_on c.from_residual.result c.from_residual.ensures.1
-    (stops (move_line_checks x at) (names ++ letters) c.args.at.line tt _ _ c.in_err-check_move_line.ensures)
-
 pub returns-in_err-check_new_name : goal.returns-in_err-check_new_name
 returns-in_err-check_new_name c =
     let x = net_of c.args.self.now.text.now c.args.self.now.net in

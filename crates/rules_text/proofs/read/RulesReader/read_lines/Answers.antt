@@ -1,13 +1,11 @@
-use Rattle.std.proofs.Common.{ℕ, ◌+◌, Bool, true, length, drop, Some, Err, vec_items, sym, ap, subst, ◌∙◌, arith}
-use Rattle.std.proofs.lemmas.Result.{err_from_is_err_and}
+use Rattle.std.proofs.Common.{ℕ, ◌+◌, Bool, true, length, drop, Some, vec_items, sym, ap, subst, ◌∙◌, arith}
 use Rattle.formats.specs.NetText.{names, place_names}
 use Rattle.formats.specs.RulesText as said
 use Rattle.formats.specs.RulesText.{RuleShape, rule_shape, checks_of, after_rule, rules_reader}
 use Rattle.formats.specs.RulesText.RuleShape.{neither}
 use Rattle.texts.specs.Lines.{rule_shape_of}
 use Rattle.texts.specs.Walking.{numbered_lines, lines_left}
-use Rattle.texts.proofs.Going.{err_weaker}
-use Rattle.texts.proofs.Walking.{LineStands, stands, line_refused, line_passed}
+use Rattle.texts.proofs.Walking.{LineStands, stands, line_passed}
 use Rattle.rules_text.specs.Reading.{Stands}
 use Rattle.rules_text.proofs.Standing.{line_stands}
 use Rattle.rules_text.proofs.read.RulesReader.read_lines.Goals as goal
@@ -22,28 +20,10 @@ here c =
     stands c.args.self.now.text.now (length (vec_items c.loop-at.rules.others) + 1) c.in-Some.at c.in-Some.line.now (lines_left c.next.new.self) c.args.self.now.ended
     (sym c.loop-at.invariant.left ∙ c.in-Some.ensures.steps)
 
-pub returns-in_err-read-clause-answer : goal.returns-in_err-read-clause-answer
-returns-in_err-read-clause-answer c = λ x says.
-    let p = err_from_is_err_and c.from_residual.result c.from_residual.ensures.1 in
-    let net = c.args.self.now.net.now in
-    let g = c.loop-at.invariant.comes x says in
-    let r = c.in_err-read.ensures in
-    rw (p.1, p.2) (line_refused rule_shape (checks_of (names net) (place_names net)) (after_rule (place_names net)) all_whole g.2 c.in-Some.ensures.steps neither r.1 _ (ap Err (sym r.2)))
-
 pub add_record-requires : goal.add_record-requires
 add_record-requires c =
     let h = here (goal.at.add_record-requires c).In-Some in
     record { stands = subst (λ (l : RuleShape). Stands c.args.self.now.text.now c.in-Some.at.byte l) c.in_ok-read.ensures.1 (line_stands c.args.self.now.text.now c.in-Some.at.byte c.in-Some.line.now h.more h.there) }
-
-pub returns-in_err-add_record-clause-answer : goal.returns-in_err-add_record-clause-answer
-returns-in_err-add_record-clause-answer c = λ x says.
-    let p = err_from_is_err_and c.from_residual-in_err-add_record.result c.from_residual-in_err-add_record.ensures.1 in
-    let net = c.args.self.now.net.now in
-    let g = c.loop-at.invariant.comes x says in
-    rw (p.1, p.2)
-    (err_weaker _ _ _ _ _
-    (λ f q. line_refused rule_shape (checks_of (names net) (place_names net)) (after_rule (place_names net)) all_whole g.2 c.in-Some.ensures.steps (rule_shape_of c.in_ok-read.read) c.in_ok-read.ensures.1 f q)
-    (c.in_err-add_record.ensures.step g.0 g.1))
 
 pub loop-at-preserved : goal.loop-at-preserved
 loop-at-preserved c =
