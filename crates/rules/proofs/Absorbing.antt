@@ -2,7 +2,7 @@
 use Rattle.std.proofs.Common.{◌≡◌, ℕ, ◌+◌, ◌-◌, ◌*◌, ◌/◌, ◌^◌, ◌<◌, ◌≤◌, Bool, true, false, cond, not, T, eqb, List, length, get_or, set, ℤ, pos, negsuc, ◌+ℤ◌, ◌-ℤ◌, ◌*ℤ◌, nat_abs, sym, refl, ap, ◌∙◌, ap₂, div-le_self, arith, w32, Fits, SFits, to_z, of_z}
 use lib.Signed.{lt_z, non_neg}
 use Rattle.std.proofs.lemmas.List.{get_or-set_same, get_or-set_other}
-use Rattle.std.proofs.lemmas.Int.{ints, to_z_pos}
+use Rattle.std.proofs.lemmas.Int.{ints, to_z_pos, to_z-of_z}
 use Rattle.std.proofs.lemmas.Bool.{and_parts, ltb-true, eqb-true, eqb-false}
 use Rattle.model.specs.Sizes.{most_places, most_arc, most_worked_weight, most_worked_bound}
 use Rattle.model.specs.Net.{Net, Ranges, incidence}
@@ -14,7 +14,7 @@ use Rattle.rules.specs.declared.round.Absorption.{Absorption}
 use Rattle.rules.specs.Divisors.{GreatestDivisor}
 use Rattle.rules.specs.Rounding.{absorption_of, Modest, RoundAt}
 use Rattle.rules.proofs.Remainders.{greatest_some, greatest_is}
-use Rattle.rules.proofs.Terms.{most_term, incidence_small, sum_small}
+use Rattle.rules.proofs.Terms.{most_term, product_fits, incidence_small, sum_small}
 
 positive_is : (z : ℤ) → lt_z (pos 0) z ≡ true → z ≡ pos (positive z)
 positive_is (pos n) e = refl
@@ -86,12 +86,6 @@ module _ {n : Net} (s : Ranges n) {w : Worked} (weights : (p : ℕ) → nat_abs 
     coded : (b m : ℕ) → b ≤ m → m < 2 ^ 31 → to_z w32 b ≡ pos b
     coded b m l r = to_z_pos w32 b (omega arith)
 
-    pub factor_fits : SFits w32 (pos (e / h))
-    factor_fits = fits (e / h) factor_low
-      where
-        fits : (b : ℕ) → b ≤ most_arc → SFits w32 (pos b)
-        fits b l = omega (arith, ints)
-
     pub addend_fits : SFits w32 (pos (a / h))
     addend_fits = fits (a / h) addend_low
       where
@@ -124,6 +118,15 @@ factor_kept z h = omega (arith, ints)
 pub times_none : (z : ℤ) → z *ℤ pos 0 ≡ pos 0
 times_none z = omega (arith, ints)
 
+-- a weight times the factor
+pub scaled_fits : (f b : ℤ) → nat_abs f ≤ most_arc → nat_abs b ≤ most_worked_weight → SFits w32 (f *ℤ b)
+scaled_fits f b h k = product_fits f b most_arc most_worked_weight (omega arith) h k
+
+pub scaled_is : (f b : ℤ) → nat_abs f ≤ most_arc → nat_abs b ≤ most_worked_weight → to_z w32 (of_z w32 (to_z w32 (of_z w32 f) *ℤ to_z w32 (of_z w32 b))) ≡ f *ℤ b
+scaled_is f b h k =
+    let j : to_z w32 (of_z w32 b) ≡ b = omega (arith, ints, k) in
+    rw (factor_kept f h, j) (to_z-of_z w32 (f *ℤ b) (scaled_fits f b h k))
+
 -- the addend at its place
 pub one_added : (xs : List ℤ) (i : ℕ) (v a : ℤ) (f : ℕ → ℤ) → i < length xs → ((p : ℕ) → get_or xs p (pos 0) ≡ f p) → v ≡ f i +ℤ a
     → (p : ℕ) → get_or (set xs i v) p (pos 0) ≡ f p +ℤ cond (eqb p i) a (pos 0)
@@ -137,19 +140,16 @@ one_added xs i v a f l same here p = go (eqb p i) refl
         ap (λ k. get_or (set xs i v) k (pos 0)) q ∙ get_or-set_same xs i v (pos 0) l ∙ here ∙ ap (λ k. f k +ℤ a) (sym q)
     go false e = get_or-set_other xs i p v (pos 0) (eqb-false p i e) ∙ same p ∙ plain (f p)
 
--- ---- the bound: x is the product, as the code has it
-module _ (f b x : ℤ) (factor : nat_abs f ≤ most_arc) (bound : nat_abs b ≤ most_worked_bound) (is : x ≡ f *ℤ (b +ℤ pos 1)) where
-  product_size : nat_abs x ≤ most_arc * (most_worked_bound + 1)
-  product_size = rw is (abs_mul_le f (b +ℤ pos 1) most_arc (most_worked_bound + 1) factor (omega (arith, ints)))
+-- ---- the bound, as the code has it
+module _ (f b : ℤ) (factor : nat_abs f ≤ most_arc) (bound : nat_abs b ≤ most_worked_bound) where
+  past_is : to_z w32 (of_z w32 (to_z w32 (of_z w32 b) +ℤ pos 1)) ≡ b +ℤ pos 1
+  past_is = omega (arith, ints, bound)
 
-  pub bound_fits : SFits w32 (to_z w32 (of_z w32 x) -ℤ pos 1)
-  bound_fits = fits x product_size
-    where
-      fits : (z : ℤ) → nat_abs z ≤ most_arc * (most_worked_bound + 1) → SFits w32 (to_z w32 (of_z w32 z) -ℤ pos 1)
-      fits z h = omega (arith, ints)
+  past : nat_abs (b +ℤ pos 1) ≤ most_worked_bound + 1
+  past = omega (arith, ints, bound)
 
-  pub bound_is : to_z w32 (of_z w32 (to_z w32 (of_z w32 x) -ℤ pos 1)) ≡ f *ℤ (b +ℤ pos 1) -ℤ pos 1
-  bound_is = same x product_size ∙ ap (λ z. z -ℤ pos 1) is
+  pub bound_is : to_z w32 (of_z w32 (to_z w32 (of_z w32 (to_z w32 (of_z w32 f) *ℤ to_z w32 (of_z w32 (to_z w32 (of_z w32 b) +ℤ pos 1)))) -ℤ pos 1)) ≡ f *ℤ (b +ℤ pos 1) -ℤ pos 1
+  bound_is = rw (factor_kept f factor, past_is) (same (f *ℤ (b +ℤ pos 1)) (abs_mul_le f (b +ℤ pos 1) most_arc (most_worked_bound + 1) factor past))
     where
       same : (z : ℤ) → nat_abs z ≤ most_arc * (most_worked_bound + 1) → to_z w32 (of_z w32 (to_z w32 (of_z w32 z) -ℤ pos 1)) ≡ z -ℤ pos 1
       same z h = omega (arith, ints)

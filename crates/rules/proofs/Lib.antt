@@ -1,5 +1,6 @@
 pub mod Remainders
 pub mod Terms
+pub mod Mapped
 pub mod Summing
 pub mod Finding
 pub mod Testing

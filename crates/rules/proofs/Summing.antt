@@ -13,13 +13,10 @@ use Rattle.model.specs.Sizes.{most_places, most_limit, most_worked_weight}
 use Rattle.model.specs.Net.{signed_sum}
 use Rattle.model.proofs.Sums.{abs_mul_le}
 use Rattle.rules.specs.Weighing.{Limited, Gives}
-use Rattle.rules.proofs.Terms.{most_term}
+use Rattle.rules.proofs.Terms.{most_term, product_fits}
 
 pub term_fits : (a b : ℤ) → nat_abs a ≤ most_worked_weight → nat_abs b ≤ most_limit → SFits w32 (a *ℤ b)
-term_fits a b h k = fits (a *ℤ b) (abs_mul_le a b most_worked_weight most_limit h k)
-  where
-    fits : (z : ℤ) → nat_abs z ≤ most_term → SFits w32 z
-    fits z l = omega (arith, ints)
+term_fits a b h k = product_fits a b most_worked_weight most_limit (omega arith) h k
 
 -- the closure f gives of the place i the weight w i times a number that post says, as the code has the product
 module _ {F : Type 0} {g : Mut F (ℕ × Unit {0}) ℤ} (f : F) (n : ℕ) (w : ℕ → ℤ) (post : ℕ → ℤ → Type 0) (few : n ≤ most_places)

@@ -1,5 +1,5 @@
 -- The terms of a weighted sum over the ground places, and that neither they nor their sums are too large for the code.
-use Rattle.std.proofs.Common.{ℕ, ◌*◌, ◌^◌, ◌<◌, ◌≤◌, ℤ, pos, ◌-ℤ◌, ◌*ℤ◌, nat_abs, mul-le-mul, arith}
+use Rattle.std.proofs.Common.{SFits, w32, ℕ, ◌*◌, ◌^◌, ◌<◌, ◌≤◌, ℤ, pos, ◌-ℤ◌, ◌*ℤ◌, nat_abs, arith}
 use Rattle.std.proofs.lemmas.Int.{ints}
 use Rattle.model.specs.Sizes.{most_places, most_arc, most_limit, most_worked_weight}
 use Rattle.model.specs.Net.{Net, Ranges, signed_sum, incidence}
@@ -9,8 +9,12 @@ use Rattle.model.proofs.Sums.{abs_mul_le, signed_sum_abs}
 abbrev pub most_term : ℕ
 most_term = most_worked_weight * most_limit
 
-pub product_fits : (a b : ℤ) (m k : ℕ) → m * k < 2 ^ 31 → nat_abs a ≤ m → nat_abs b ≤ k → nat_abs a * nat_abs b < 2 ^ 31
-product_fits a b m k room h l = omega (arith, mul-le-mul h l)
+-- a product of two numbers that are small enough for it
+pub product_fits : (a b : ℤ) (m k : ℕ) → m * k < 2 ^ 31 → nat_abs a ≤ m → nat_abs b ≤ k → SFits w32 (a *ℤ b)
+product_fits a b m k room h l = fits (a *ℤ b) (omega (arith, abs_mul_le a b m k h l))
+  where
+    fits : (z : ℤ) → nat_abs z < 2 ^ 31 → SFits w32 z
+    fits z h = omega (arith, ints)
 
 pub incidence_small : (n : Net) → Ranges n → (p t : ℕ) → p < n.ground_places → nat_abs (incidence n p t) ≤ most_arc
 incidence_small n s p t l = small (n.give p t) (n.take p t) (s.ground_arcs p t l).1 (s.ground_arcs p t l).0

@@ -2,7 +2,6 @@
 #![tactic(auto)]
 
 pub mod gcd;
-mod product;
 mod ranges;
 mod round;
 mod search;

@@ -5,14 +5,12 @@ ghost use Rattle.rules.specs.Rules.{worked_of, answer_of};
 ghost use Rattle.rules.specs.Rounding.{absorption_of, after_round, Modest, RoundAt};
 
 use crate::gcd::gcd;
-use crate::product::product;
 use crate::ranges::{WORKED, in_range};
 use crate::worked::WorkedRule;
 use model::fault::Fault;
 use model::refusal::Refusal;
 use model::sizes::MOST_PLACES;
 use plant::net::Net;
-use std::array;
 
 // What a round does: every weight is multiplied by the factor, then the addend is added to the weight of the place.
 #[derive(Clone, Copy)]
@@ -39,20 +37,12 @@ impl WorkedRule {
         }
     }
 
-    // The weight of the place `p` times the factor.
-    fn scaled_weight(&self, factor: i32, p: usize) -> i32
-        requires { unsigned_abs factor ≤ most_arc }
-        ensures { result ≡ factor *ℤ (worked_of self.now).weight p }
-    {
-        product(factor, self.weight(p))
-    }
-
     // Every weight times the factor.
     fn scaled(&self, factor: i32) -> [i32; MOST_PLACES]
         requires { unsigned_abs factor ≤ most_arc }
         ensures { (p : ℕ) → slice_index_or result p (pos 0) ≡ factor *ℤ (worked_of self.now).weight p }
     {
-        array::from_fn(|p| self.scaled_weight(factor, p))
+        self.weights.map(|weight| factor * weight)
     }
 
     // The weights after the round.
@@ -70,7 +60,7 @@ impl WorkedRule {
         requires { Modest absorption }
         ensures { result ≡ absorption.factor *ℤ ((worked_of self.now).bound +ℤ pos 1) -ℤ pos 1 }
     {
-        product(absorption.factor, self.bound + 1) - 1
+        absorption.factor * (self.bound + 1) - 1
     }
 
     // The rule after the round for the move `t` and the place `p`, or 21 where its numbers are too large.
