@@ -1,5 +1,5 @@
 -- A row that is set to a worked rule: its tokens, and the pile after it.
-use Rattle.std.proofs.Common.{◌≡◌, ℕ, ◌<◌, ◌≤◌, T, List, get_or, ℤ, pos, negsuc, ◌-ℤ◌, nat_abs, ◌≤ℤ◌, Ok, Result, sym, refl, ap, ◌∙◌, subst, arith}
+use Rattle.std.proofs.Common.{◌≡◌, ℕ, ◌<◌, ◌≤◌, T, List, get_or, ℤ, pos, ◌-ℤ◌, nat_abs, ◌≤ℤ◌, Ok, Result, sym, refl, ap, ◌∙◌, subst, arith}
 use lib.Signed.{non_neg}
 use Rattle.std.proofs.lemmas.Int.{ints}
 use Rattle.model.specs.declared.fault.Fault.{Fault}
@@ -16,18 +16,10 @@ use Rattle.layers.specs.Setting.{SetTo}
 
 -- ---- the tokens of the row: what is spare below the bound
 pub spare_nonneg : (b x : ℤ) → x ≤ℤ b → T (non_neg (b -ℤ x))
-spare_nonneg b x l = go (b -ℤ x) refl
-  where
-    go : (z : ℤ) → b -ℤ x ≡ z → T (non_neg z)
-    go (pos n) e = tt
-    go (negsuc n) e = absurd (omega (arith, ints))
+spare_nonneg b x l = grind (arith, ints)
 
 pub spare_is : (b x : ℤ) → x ≤ℤ b → nat_abs (b -ℤ x) ≡ positive (b -ℤ x)
-spare_is b x l = go (b -ℤ x) refl
-  where
-    go : (z : ℤ) → b -ℤ x ≡ z → nat_abs z ≡ positive z
-    go (pos n) e = refl
-    go (negsuc n) e = absurd (omega (arith, ints))
+spare_is b x l = grind (arith, ints)
 
 -- a plant's tokens on ground places are at most the greatest limit
 pub spare_small : (n : Net) (free : ℕ → ℕ) (w : Worked) → Ranges n → ((p : ℕ) → free p ≤ n.limit p) → ((p : ℕ) → nat_abs (w.weight p) ≤ most_worked_weight) → nat_abs w.bound ≤ most_worked_bound

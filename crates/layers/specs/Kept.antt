@@ -1,14 +1,13 @@
--- What no row in a monitor or a board is without, and that each change of one keeps it. By its type a row is one that a move takes from
--- or gives to, never both.
-use Rattle.std.specs.Prelude.{◌≡◌, ℕ, ◌<◌, ◌≤◌, List, length, replicate, ℤ, pos, negsuc, ◌==◌, ◌≢◌, slice_index_or, slice_set, unsigned_abs, refl}
+-- What no row in a monitor or a board is without, and that each change of one keeps it. That no move both takes from a row and gives to
+-- it holds of every row, by its type.
+use Rattle.std.specs.Prelude.{◌≡◌, ℕ, ◌<◌, ◌≤◌, List, length, replicate, ℤ, ◌==◌, ◌≢◌, slice_set, unsigned_abs}
 use Rattle.std.proofs.Common.{ap, sym, subst, ⊎_elim, arith}
 use Rattle.std.proofs.lemmas.List.{get_or_past, get_or-replicate, get_or-set_same, get_or-set_other, length-replicate}
 use Rattle.std.proofs.lemmas.Bool.{cases_eq, cases_lt, cond_both}
+use Rattle.std.proofs.lemmas.Int.{ints}
 use Rattle.model.specs.Layer as model
 use Rattle.model.specs.Layer.{blank, monitor, board, row_count}
-use Rattle.model.specs.Rule.{positive, negative}
 use Rattle.model.specs.Sizes.{monitor_rows, board_rows, control_limit, most_control_arc}
-use Rattle.model.proofs.Setting.{positive_le, negative_le}
 use Rattle.layers.specs.declared.row.Row.{Row}
 use Rattle.layers.specs.Rows.{row_of, nothing, rows_of, rule_row, top_of}
 
@@ -21,18 +20,10 @@ kept_blank : Kept blank
 kept_blank = record { low = omega arith; small_takes = λ t. omega arith; small_gives = λ t. omega arith }
 
 pub kept_rule : (raises : ℕ → ℤ) (free : ℕ) → free ≤ control_limit → ((t : ℕ) → unsigned_abs (raises t) ≤ most_control_arc) → Kept (rule_row raises free)
-kept_rule raises free l small = record {
-  low = l;
-  small_takes = λ t. omega (arith, positive_le (raises t), small t);
-  small_gives = λ t. omega (arith, negative_le (raises t), small t);
-}
-
-never_both : (z : ℤ) → 0 < positive z → negative z ≡ 0
-never_both (pos n) h = refl
-never_both (negsuc n) h = absurd (omega arith)
+kept_rule raises free l small = record { low = l; small_takes = λ t. grind (arith, ints, small t); small_gives = λ t. grind (arith, ints, small t) }
 
 pub one_way : (row : Row) (t : ℕ) → 0 < (row_of row).take t → (row_of row).give t ≡ 0
-one_way row t = never_both (slice_index_or row.raises t (pos 0))
+one_way row t l = grind (arith, ints)
 
 -- ---- one row of a table
 pub kept_set : (rows : List Row) (r : ℕ) (x : Row) → r < length rows → ((i : ℕ) → Kept (rows_of rows i)) → Kept (row_of x) → (i : ℕ) → Kept (rows_of (slice_set rows r x) i)
