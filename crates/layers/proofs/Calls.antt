@@ -1,11 +1,12 @@
 -- A layer's calls: the lowest place that is in the way is one below, else that of the layer's lowest such row, whose arcs are masked.
 use Rattle.std.proofs.Common.{◌≡◌, ℕ, zero, suc, ◌+◌, ◌-◌, ◌<◌, ◌≤◌, Bool, true, false, cond, not, ◌&&◌, ltb, Some, None, Ok, Option, sym, refl, ap, ap₂, ◌∙◌, subst, arith}
 use Rattle.std.specs.Option.{option_or, option_map}
-use Rattle.std.proofs.lemmas.Bool.{cond_both, le-ltb}
+use Rattle.std.proofs.lemmas.Bool.{cond_both, le-ltb, ltb-false}
 use Rattle.std.proofs.lemmas.Option.{none-some}
 use Rattle.model.specs.declared.refusal.Refusal.{Refusal}
+use Rattle.model.specs.declared.refusal.Refusal.TheVariants.{Short, OverLimit}
 use Rattle.model.specs.Net.{Net}
-use Rattle.model.specs.Plant.{lowest, fault_at, refuse_at, ◌else_by◌, known, short_place, over_place}
+use Rattle.model.specs.Plant.{lowest, fault_at, refuse_at, ◌else_by◌, known, short_place, over_place, begin_answer, finish_answer, back_answer}
 use Rattle.model.specs.Layer.{Row, is_shut, own_place, masked_take, masked_give, layer_net, layer_free}
 use Rattle.model.specs.Sizes.{control_limit}
 use Rattle.model.proofs.Checks.{lowest_all_fail, lowest_ext, lowest_none, refuse_at_ok}
@@ -102,14 +103,38 @@ module _ (size : ℕ) (n : Net) (free : ℕ → ℕ) (rows : ℕ → Row) (t : �
         ≡ option_or (over_place n free (λ p. n.take p t)) (rows_place (not (is_shut size n) && n.controllable t) (λ r. ltb control_limit ((rows r).free + (rows r).take t)))
     over_take_is = over_is (λ m p. m.take p t) (λ r. (rows r).take t) (n.controllable t) (at_place (λ r. masked_take n (rows r) t) (λ p. n.take p t)) (at_row (λ r. masked_take n (rows r) t) (λ p. n.take p t))
 
-  -- ---- a call that is accepted: o is the place that was sought in the whole, p the one below, and own tests the rows
-  module _ (why : Refusal) (own : ℕ → Bool) (c : Bool) (o p : Option ℕ) (is : o ≡ option_or p (rows_place c own))
-      (there : Ok tt ≡ known (layer_net size n rows) t) (ok : Ok tt ≡ refuse_at (fault_at (layer_net size n rows) why t) o) where
-    none_found : (p ≡ None) × (rows_place c own ≡ None)
-    none_found = none_or p (rows_place c own) (sym is ∙ refuse_at_ok (fault_at (layer_net size n rows) why t) o (sym ok))
+  -- ---- a call that is accepted is so below, and none of its rows is in the way: o is the place that was sought in the whole, p the one below
+  accepted : (why : Refusal) (own : ℕ → Bool) (c : Bool) (o p : Option ℕ) → o ≡ option_or p (rows_place c own)
+      → Ok tt ≡ known (layer_net size n rows) t → Ok tt ≡ refuse_at (fault_at (layer_net size n rows) why t) o
+      → (Ok tt ≡ (known n t else_by refuse_at (fault_at n why t) p)) × (true ≡ c → (r : ℕ) → r < size → own r ≡ false)
+  accepted why own c o p is there ok =
+      let none = none_or p (rows_place c own) (sym is ∙ refuse_at_ok (fault_at (layer_net size n rows) why t) o (sym ok)) in (
+        passed n why t p (cond_both (is_shut size n) n (open_net size n rows) (λ (m : Net). t < m.moves → t < n.moves) (λ e l. l) (λ e l. l) (known_in (layer_net size n rows) t there)) none.0,
+        λ e. lowest_none own size (unmapped (λ (r : ℕ). n.places + r) (lowest own 0 size) (ap (λ (b : Bool). rows_place b own) e ∙ none.1)),
+      )
 
-    pub ok_below : Ok tt ≡ (known n t else_by refuse_at (fault_at n why t) p)
-    ok_below = passed n why t p (cond_both (is_shut size n) n (open_net size n rows) (λ (m : Net). t < m.moves → t < n.moves) (λ e l. l) (λ e l. l) (known_in (layer_net size n rows) t there)) none_found.0
+  abbrev takes : Bool
+  takes = not (is_shut size n) && n.controllable t
 
-    pub none_in_rows : true ≡ c → (r : ℕ) → r < size → own r ≡ false
-    none_in_rows e = lowest_none own size (unmapped (λ (r : ℕ). n.places + r) (lowest own 0 size) (ap (λ (b : Bool). rows_place b own) e ∙ none_found.1))
+  abbrev gives : Bool
+  gives = not (is_shut size n) && ltb t n.moves
+
+  module _ (o : Option ℕ) (there : Ok tt ≡ known (layer_net size n rows) t) where
+    pub begins : o ≡ short_place (layer_net size n rows) (layer_free size n free rows) t → Ok tt ≡ refuse_at (fault_at (layer_net size n rows) Short t) o
+        → (Ok tt ≡ begin_answer n free t) × (true ≡ takes → (r : ℕ) → r < size → (rows r).take t ≤ (rows r).free)
+    begins found ok =
+        let a = accepted Short (λ r. ltb (rows r).free ((rows r).take t)) takes o (short_place n free t) (found ∙ short_is) there ok in
+        (a.0, λ e r l. ltb-false (rows r).free ((rows r).take t) (a.1 e r l))
+
+    module _ (low : (r : ℕ) → (rows r).free ≤ control_limit) (ok : Ok tt ≡ refuse_at (fault_at (layer_net size n rows) OverLimit t) o) where
+      pub finishes : o ≡ over_place (layer_net size n rows) (layer_free size n free rows) (λ p. (layer_net size n rows).give p t)
+          → (Ok tt ≡ finish_answer n free t) × (true ≡ gives → (r : ℕ) → r < size → (rows r).free + (rows r).give t ≤ control_limit)
+      finishes found =
+          let a = accepted OverLimit (λ r. ltb control_limit ((rows r).free + (rows r).give t)) gives o (over_place n free (λ p. n.give p t)) (found ∙ over_give_is low) there ok in
+          (a.0, λ e r l. ltb-false control_limit ((rows r).free + (rows r).give t) (a.1 e r l))
+
+      pub goes_back : o ≡ over_place (layer_net size n rows) (layer_free size n free rows) (λ p. (layer_net size n rows).take p t)
+          → (Ok tt ≡ back_answer n free t) × (true ≡ takes → (r : ℕ) → r < size → (rows r).free + (rows r).take t ≤ control_limit)
+      goes_back found =
+          let a = accepted OverLimit (λ r. ltb control_limit ((rows r).free + (rows r).take t)) takes o (over_place n free (λ p. n.take p t)) (found ∙ over_take_is low) there ok in
+          (a.0, λ e r l. ltb-false control_limit ((rows r).free + (rows r).take t) (a.1 e r l))
