@@ -20,19 +20,6 @@ pub struct Fault {
     pub spot: Option<Spot>,
 }
 
-impl Spot {
-    // The ground place `place`.
-    pub fn on_ground(place: usize) -> Self
-        ensures { result ≡ record { place = place; layer = 0; row = 0 } }
-    {
-        Spot {
-            place,
-            layer: 0,
-            row: 0,
-        }
-    }
-}
-
 impl Fault {
     // Of a setting: for no move and no place.
     pub fn of_setting(refusal: Refusal) -> Self

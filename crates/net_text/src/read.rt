@@ -2,21 +2,21 @@
 ghost use Rattle.std.specs.Prelude.{◌≡◌, ◌+◌, ◌^◌, ◌<◌, [], ◌∷◌, map, length, codes};
 ghost use Rattle.std.specs.Str.{bytes_eq};
 ghost use Rattle.model.specs.declared.refusal.Refusal.TheVariants.{NoRecord, TooMany};
-ghost use Rattle.formats.specs.Words.{value, is_new, index_of};
+ghost use Rattle.formats.specs.Words.{value, index_of};
 ghost use Rattle.formats.specs.Texts.{check};
-ghost use Rattle.formats.specs.NetText.{names, place_names, move_names};
+ghost use Rattle.formats.specs.NetText.{place_names, move_names};
 ghost use Rattle.formats.specs.ReadNet.{name_checks, kind_checks, place_line_checks, count_checks, place_checks, move_line_checks, letter_checks, move_checks, weight_checks, pair_checks, arc_checks, kind_of, is_new_pair};
 ghost use Rattle.net_text.specs.Nets.{arc_of};
 ghost use Rattle.net_text.specs.Reading.{so_far};
 ghost use Rattle.texts.specs.Spans.{span, checked};
 
+use crate::named_net::NamedNet;
 use crate::net::{Arc, Move, NetText, Place};
 use formats::fault::TextFault;
 use formats::kind::Kind;
 use model::refusal::Refusal;
 use model::sizes::{ARC_DIGITS, COUNT_DIGITS, MOST_MOVES, MOST_PLACES};
 use texts::at::At;
-use texts::names::lacks;
 use texts::span::Span;
 use texts::words::is_name;
 
@@ -90,19 +90,16 @@ fn is_new_pair(arcs: &[Arc], place: usize, transition: usize) -> bool
 }
 
 impl<'a> NetReader<'a> {
-    // Whether neither a place nor a move has the name.
-    fn is_new(&self, name: &[u8]) -> bool
-        ensures { result ≡ is_new (names (so_far self.now)) name.now }
-    {
-        lacks(&self.net.places, self.text, name) && lacks(&self.net.moves, self.text, name)
-    }
-
     // Refuses a field that is no name, or one that a place or a move has.
     fn check_new_name(&self, field: &[u8], at: At, byte: usize) -> Result<(), TextFault>
         ensures { result ≡ checked (name_checks (so_far self.now) byte field.now) at.line tt }
     {
         at.check(is_name(field), Refusal::Field, byte)?;
-        at.check(self.is_new(field), Refusal::NameTaken, byte)
+        let so_far = NamedNet {
+            net: &self.net,
+            text: self.text,
+        };
+        at.check(so_far.is_new(field), Refusal::NameTaken, byte)
     }
 
     // A place line comes before all moves and arcs, and there is room for one more.

@@ -1,8 +1,7 @@
 // The reader of the net text.
-ghost use Rattle.std.specs.Prelude.{◌≡◌, ℕ, ◌+◌, ◌^◌, ◌<◌, ◌≤◌, List, map, length, take, drop, Some, Ok, Err, OnOk, ◌==◌};
+ghost use Rattle.std.specs.Prelude.{◌≡◌, ◌+◌, ◌^◌, ◌<◌, ◌≤◌, length, drop, Some, Ok, Err, OnOk, ◌==◌};
 ghost use Rattle.model.specs.Sizes.{most_bytes};
 ghost use Rattle.formats.specs.declared.kind.Kind.TheVariants.{Bank, Line};
-ghost use Rattle.formats.specs.NetText as said;
 ghost use Rattle.formats.specs.Words.{all, fields, last};
 ghost use Rattle.formats.specs.Texts.{ended};
 ghost use Rattle.formats.specs.NetClauses.{shape};
@@ -11,10 +10,10 @@ ghost use Rattle.formats.specs.ReadNet.{is_shaped, is_whole, net_reader};
 ghost use Rattle.texts.specs.Lines.{shape_of};
 ghost use Rattle.texts.specs.Spans.{Told};
 ghost use Rattle.texts.specs.Walking.{numbered_lines, read_on, lines_left};
-ghost use Rattle.net_text.specs.Nets.{place_of, net_of};
-ghost use Rattle.net_text.specs.Reading.{so_far, LineAdded, plant_read, end_read, Stands, Located, Locates, line_count, NetRead};
+ghost use Rattle.net_text.specs.Nets.{net_of};
+ghost use Rattle.net_text.specs.Reading.{so_far, LineAdded, plant_read, end_read, Stands, Located, line_count, NetRead};
 
-use crate::net::{NetText, Place};
+use crate::net::NetText;
 use crate::read::{NetReader, read_kind};
 use formats::fault::TextFault;
 use formats::kind::Kind;
@@ -71,6 +70,8 @@ impl<'a> NetReader<'a> {
     }
 
     // Adds what a line says to the net; no record of a first line or of the rules text may come here.
+    // Kept: like `add_record` and `read_lines` of `rules_text`; a trait of both would have this match in each impl and, to share the
+    // loop's four lines, five ghost items: the text, the lines so far, the order of checks, what is said, and where names stand.
     fn add_record(&mut self, at: At, line: Record<'_>) -> Result<(), ReadError>
         requires stands { Stands self.old.text.now at.byte (shape_of line) }
         ensures { LineAdded self.old self.new at (shape_of line.entry) result }
@@ -122,49 +123,49 @@ fn read_plant(line: &[u8], at: At) -> Result<Kind, TextFault>
     }
 }
 
-// Whether all places have the limit 1.
-fn all_single(places: &[Place]) -> bool
-    ensures { (bs : List ℕ) → result ≡ all (λ (p : said.Place). (p.limit == 1)) (map (place_of bs) places.now) }
-{
-    places.iter().all(|place| place.limit == 1)
-}
-
-// A bank has four places a machine, as many moves, and all limits are 1.
-fn is_bank(net: &NetText) -> bool
-    ensures { (bs : List ℕ) → result ≡ is_shaped Bank (net_of bs net.now).places (net_of bs net.now).moves }
-{
-    if net.places.len() % 4 != 0 || net.moves.len() != net.places.len() {
-        return false;
+impl NetReader<'_> {
+    // Whether all places have the limit 1.
+    fn all_single(&self) -> bool
+        ensures { result ≡ all (λ p. (p.limit == 1)) (so_far self.now).places }
+    {
+        self.net.places.iter().all(|place| place.limit == 1)
     }
-    all_single(&net.places)
-}
 
-// A line has one move more than places.
-fn is_line(net: &NetText) -> bool
-    ensures { (bs : List ℕ) → result ≡ is_shaped Line (net_of bs net.now).places (net_of bs net.now).moves }
-{
-    net.places.len() < net.moves.len() && net.moves.len() - net.places.len() == 1
-}
-
-// Whether there are a place and a move, and their counts and limits are those of the kind.
-fn is_whole(net: &NetText) -> bool
-    ensures { (bs : List ℕ) → result ≡ is_whole (net_of bs net.now) }
-{
-    if net.places.is_empty() || net.moves.is_empty() {
-        return false;
+    // A bank has four places a machine, as many moves, and all limits are 1.
+    fn is_bank(&self) -> bool
+        ensures { result ≡ is_shaped Bank (so_far self.now).places (so_far self.now).moves }
+    {
+        let places = self.net.places.len();
+        places % 4 == 0 && self.net.moves.len() == places && self.all_single()
     }
-    match net.kind {
-        Kind::Net => true,
-        Kind::Bank => is_bank(net),
-        Kind::Line => is_line(net),
-    }
-}
 
-// What the end of a net text of `size` bytes asks for.
-fn check_end(net: &NetText, size: usize) -> Result<(), TextFault>
-    ensures { (bs : List ℕ) → result ≡ end_read (net_of bs net.now) size }
-{
-    WHOLE.check(is_whole(net), Refusal::NotOfKind, size)
+    // A line has one move more than places.
+    fn is_line(&self) -> bool
+        ensures { result ≡ is_shaped Line (so_far self.now).places (so_far self.now).moves }
+    {
+        self.net.moves.len() == self.net.places.len() + 1
+    }
+
+    // Whether there are a place and a move, and their counts and limits are those of the kind.
+    fn is_whole(&self) -> bool
+        ensures { result ≡ is_whole (so_far self.now) }
+    {
+        if self.net.places.is_empty() || self.net.moves.is_empty() {
+            return false;
+        }
+        match self.net.kind {
+            Kind::Net => true,
+            Kind::Bank => self.is_bank(),
+            Kind::Line => self.is_line(),
+        }
+    }
+
+    // What the end of the text asks for.
+    fn check_end(&self) -> Result<(), TextFault>
+        ensures { result ≡ end_read (so_far self.now) (length self.now.text.now) }
+    {
+        WHOLE.check(self.is_whole(), Refusal::NotOfKind, self.text.len())
+    }
 }
 
 // Reads a net text: the net that it says, or where it is wrong and why.
@@ -174,7 +175,7 @@ pub fn read_net(heap: Global, text: &[u8]) -> Result<NetText, ReadError>
     check_text(text)?;
     let mut lines = Lines::new(text);
     let Some((at, first)) = lines.next() else {
-        return Err(WHOLE.fault(Refusal::Form, 0).into());
+        unreachable!();
     };
     let kind = read_plant(first, at)?;
     let net = NetText {
@@ -185,6 +186,6 @@ pub fn read_net(heap: Global, text: &[u8]) -> Result<NetText, ReadError>
     };
     let mut reader = NetReader { text, net };
     reader.read_lines(lines)?;
-    check_end(&reader.net, text.len())?;
+    reader.check_end()?;
     Ok(reader.net)
 }

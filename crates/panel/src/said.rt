@@ -9,7 +9,6 @@ ghost use Rattle.panel.specs.Said.{cell_said};
 use net_text::named_net::NamedNet;
 use rules_text::names::NamedRules;
 use texts::names::{find, part};
-use texts::words::same;
 
 // The net and the rules, each with the text that its names are parts of.
 #[derive(Clone, Copy)]
@@ -55,7 +54,7 @@ impl<'a> Said<'a> {
     fn names_fixed(&self, name: &[u8]) -> bool
         ensures { result ≡ bytes_eq (cell_said self.now).fixed name.now }
     {
-        same(part(self.rules.text, self.rules.rules.fixed.name), name)
+        part(self.rules.text, self.rules.rules.fixed.name) == name
     }
 
     // The place of the pile that has that name: a ground place, or the place of a rule.

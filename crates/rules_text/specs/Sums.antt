@@ -1,4 +1,5 @@
 -- What the reader of sums answers.
+--   Tells post f     what a test answers of each byte is what f says of it
 --   next_of b        what the byte b is to a sum: a plus, a minus, a star, or another
 --   next_at f i      what stands at the byte i of the field f, by which its sum goes on
 --   no_sign c        whether the byte c is no sign
@@ -23,6 +24,9 @@ use Rattle.texts.specs.Spans.{checked}
 use Rattle.rules_text.specs.declared.part.Next.{Next}
 use Rattle.rules_text.specs.declared.part.Next.TheVariants.{Plus, Minus, Times, Other, End}
 use Rattle.rules_text.specs.declared.part.Term.{Term}
+
+abbrev pub Tells : (ℕ → Bool → Type 0) → (ℕ → Bool) → Type 0
+Tells post f = (c : ℕ) (b : Bool) → post c b → b ≡ f c
 
 abbrev pub next_of : ℕ → Next
 next_of b = cond (b == 43) Plus (cond (b == 45) Minus (cond (b == 42) Times Other))

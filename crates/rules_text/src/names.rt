@@ -9,7 +9,6 @@ ghost use Rattle.rules_text.specs.Naming.{named_titles, rule_found};
 use crate::rule::RulesText;
 use net_text::named_net::{NamedNet, name_at};
 use texts::names::{find, lacks, part};
-use texts::words::same;
 
 // A rule of a rules text: the fixed one, or the one that belongs to a row.
 #[derive(Clone, Copy)]
@@ -61,7 +60,7 @@ impl<'r, 'a> NamedRules<'r, 'a> {
     pub fn find_rule(&self, name: &[u8]) -> Option<Rule>
         ensures { result ≡ rule_found (named_titles self.now) name.now }
     {
-        if same(self.fixed_name(), name) {
+        if self.fixed_name() == name {
             return Some(Rule::Fixed);
         }
         find(&self.rules.others, self.text, name).map(Rule::Row)
@@ -71,6 +70,6 @@ impl<'r, 'a> NamedRules<'r, 'a> {
     pub fn is_new(&self, name: &[u8]) -> bool
         ensures { result ≡ is_new (named_titles self.now) name.now }
     {
-        !same(self.fixed_name(), name) && lacks(&self.rules.others, self.text, name)
+        self.fixed_name() != name && lacks(&self.rules.others, self.text, name)
     }
 }

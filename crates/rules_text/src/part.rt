@@ -1,5 +1,5 @@
 // One part of a sum: a number and a star, if it has them, and the name of a place.
-ghost use Rattle.std.specs.Prelude.{◌≡◌, ℕ, ◌+◌, ◌^◌, ◌<◌, ◌≤◌, length, drop, min, IfOk, IfSome};
+ghost use Rattle.std.specs.Prelude.{◌≡◌, ℕ, Bool, ◌+◌, ◌^◌, ◌<◌, ◌≤◌, length, drop, min, IfOk, IfSome};
 ghost use Rattle.std.specs.List.{prefix_len};
 ghost use Rattle.model.specs.Sizes.{most_places};
 ghost use Rattle.formats.specs.NetText.{place_names};
@@ -7,7 +7,7 @@ ghost use Rattle.formats.specs.Words.{is_digit, index_of};
 ghost use Rattle.formats.specs.Sums.{begins_name, body_at};
 ghost use Rattle.texts.specs.Numbers.{is_word};
 ghost use Rattle.texts.specs.Spans.{checked};
-ghost use Rattle.rules_text.specs.Sums.{next_at, piece_at, number_of, factor_of, Rest, number_checks, name_checks, term_checks, title_of, term_at};
+ghost use Rattle.rules_text.specs.Sums.{Tells, next_at, piece_at, number_of, factor_of, Rest, number_checks, name_checks, term_checks, title_of, term_at};
 
 use formats::fault::TextFault;
 use model::refusal::Refusal;
@@ -65,20 +65,21 @@ pub(crate) fn next_at(sum: &[u8], i: usize) -> Next
     }
 }
 
-// How many digits stand at the front.
-fn digits_len(bytes: &[u8]) -> usize
-    ensures value { result ≡ prefix_len is_digit bytes.now }
+// How many bytes at the front pass the test.
+fn len_of<F: Fn(u8) -> bool>(bytes: &[u8], test: F) -> usize
+    requires { F.IsAlwaysCallable test }
+    ensures value { (f : ℕ → Bool) → Tells (F.post test) f → result ≡ prefix_len f bytes.now }
     ensures within { result ≤ length bytes.now }
 {
-    bytes.iter().take_while(|b| is_digit(**b)).count()
-}
-
-// How many letters and digits stand at the front.
-fn word_len(bytes: &[u8]) -> usize
-    ensures value { result ≡ prefix_len is_word bytes.now }
-    ensures within { result ≤ length bytes.now }
-{
-    bytes.iter().take_while(|b| is_word(**b)).count()
+    bytes
+        .iter()
+        .take_while(
+            |b|
+                requires { F.pre test b.now.now }
+                ensures { F.post test b.now.now result }
+            { test(**b) },
+        )
+        .count()
 }
 
 // Whether a name begins at `i`.
@@ -103,7 +104,7 @@ impl SumReader<'_> {
         ensures value { result ≡ start + prefix_len is_digit (drop start self.now.sum.now) }
         ensures within { result ≤ length self.now.sum.now }
     {
-        start + digits_len(&self.sum[start..])
+        start + len_of(&self.sum[start..], is_digit)
     }
 
     // Where the name from `start` on ends, which is as long as names can be at most.
@@ -112,7 +113,7 @@ impl SumReader<'_> {
         ensures value { result ≡ start + min 12 (prefix_len is_word (drop start self.now.sum.now)) }
         ensures within { result ≤ length self.now.sum.now }
     {
-        start + word_len(&self.sum[start..]).min(MOST_NAME)
+        start + len_of(&self.sum[start..], is_word).min(MOST_NAME)
     }
 
     // The number of the part that starts at `start`, 1 where it has none, and where its name starts.

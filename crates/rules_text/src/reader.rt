@@ -68,6 +68,8 @@ impl RulesReader<'_> {
     }
 
     // Adds what a line after the first says to the rules; it must be a rule line.
+    // Kept: like `add_record` and `read_lines` of `net_text`; a trait of both would have this match in each impl and, to share the loop's
+    // four lines, five ghost items: the text, the lines so far, the order of checks, what is said, and where names stand.
     fn add_record(&self, rules: &mut RulesText, at: At, line: Record<'_>) -> Result<(), ReadError>
         requires stands { Stands self.now.text.now at.byte (rule_shape_of line) }
         ensures step { Step (names self.now.net.now) (place_names self.now.net.now) self.now.text.now rules.old rules.new at.line at.byte (rule_shape_of line.entry) result }

@@ -29,6 +29,8 @@ fn is_weight(weight: i32) -> bool
 
 impl SumReader<'_> {
     // The weights of the sum, or the first thing that is wrong with it from the left.
+    // Kept: an iterator over the parts would move the same position and sign, and would have to hold a wrong sign back until the
+    // part before it, which ends there, has been weighed.
     pub(crate) fn read_sum(&self) -> Result<[i32; MOST_PLACES], TextFault>
         ensures { SumRead (place_names self.now.net.now) self.now.at.line self.now.byte self.now.sum.now result }
     {

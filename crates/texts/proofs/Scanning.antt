@@ -1,11 +1,11 @@
 -- Loops that go through bytes one by one.
-use Rattle.std.proofs.Common.{◌≡◌, ℕ, zero, suc, ◌+◌, ◌-◌, ◌*◌, ◌^◌, ◌<◌, ◌≤◌, min, Bool, true, false, cond, not, ◌&&◌, leb, eqb, ◌⊎◌, MatchBool, HoldsAt, List, [], ◌∷◌, map, length, get_or, take, drop, Option, MatchOption, sym, refl, ap, ◌∙◌, pow-suc, add-one, inl, inr, arith}
+use Rattle.std.proofs.Common.{◌≡◌, ℕ, ◌+◌, ◌-◌, ◌*◌, ◌^◌, ◌<◌, ◌≤◌, min, Bool, true, false, cond, not, ◌&&◌, leb, eqb, ◌⊎◌, HoldsAt, List, [], ◌∷◌, map, length, get_or, take, drop, Option, MatchOption, sym, refl, ap, ◌∙◌, pow-suc, add-one, inl, inr, arith}
 use native.Mathlib.Nat.{pow-le-pow_right}
-use Rattle.std.specs.List.{AllWithin, prefix_len}
+use Rattle.std.specs.List.{AllWithin, prefix_len, list_all}
 use Rattle.std.specs.Option.{unwrap_or}
 use Rattle.std.proofs.lemmas.Iterator.{index_from_first}
 use Rattle.std.proofs.lemmas.List.{at_drop_more, at_drop_all, take_rest, drop_all}
-use Rattle.std.proofs.lemmas.Bool.{and_left, and_right, false≢true, cases_lt}
+use Rattle.std.proofs.lemmas.Bool.{and_left, false≢true, cases_lt}
 use Rattle.formats.specs.Words.{is_letter, is_name, is_not, all}
 use Rattle.texts.specs.Numbers.{is_word, most_digits}
 
@@ -31,19 +31,10 @@ module _ {X : Type 0} (p : X → Bool) where
   abbrev pub No : X → Type 0
   No x = p x ≡ false
 
-  all_true : (xs : List X) → AllWithin Yes xs 0 (length xs) → all p xs ≡ true
-  all_true [] h = refl
-  all_true (x ∷ xs) h = ap (λ (b : Bool). b && all p xs) (h 0 x (omega arith) (omega arith)) ∙ all_true xs (λ k d l n. h (suc k) d (omega arith) (omega arith))
-
-  all_false : (xs : List X) (k : ℕ) → k < length xs → HoldsAt No xs k → all p xs ≡ false
-  all_false [] k l h = absurd (omega arith)
-  all_false (x ∷ xs) zero l h = ap (λ (b : Bool). b && all p xs) (h x)
-  all_false (x ∷ xs) (suc k) l h = and_right (p x) (all p xs) (all_false xs k (omega arith) h)
-
-  -- of `all`
-  pub all_is : (xs : List X) (r : Bool) → MatchBool r (AllWithin Yes xs 0 (length xs)) ((k : ℕ) × (k < length xs) × HoldsAt No xs k) → r ≡ all p xs
-  all_is xs true h = sym (all_true xs h)
-  all_is xs false h = sym (all_false xs h.0 h.1 h.2)
+-- `all` of the library and of the format
+pub all_is : {X : Type 0} (p : X → Bool) (xs : List X) → list_all p xs ≡ all p xs
+all_is p [] = refl
+all_is p (x ∷ xs) = ap (λ (b : Bool). p x && b) (all_is p xs)
 
 -- `all` of what the elements stand for
 pub all_map : {X Y : Type 0} (p : Y → Bool) (f : X → Y) (xs : List X) → all (λ x. p (f x)) xs ≡ all p (map f xs)

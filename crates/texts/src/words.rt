@@ -1,7 +1,6 @@
-// Names, numbers and equal bytes.
-ghost use Rattle.std.specs.Prelude.{◌≡◌, ℕ, ◌+◌, ◌<◌, ◌≤◌, min, ◌&&◌, length, drop, nat_le};
+// Names and numbers, and where a byte stands.
+ghost use Rattle.std.specs.Prelude.{◌≡◌, ◌+◌, ◌<◌, ◌≤◌, min, ◌&&◌, length, drop, nat_le};
 ghost use Rattle.std.specs.List.{prefix_len};
-ghost use Rattle.std.specs.Str.{bytes_eq};
 ghost use Rattle.model.specs.Sizes.{name_tail};
 ghost use Rattle.formats.specs.Words.{is_letter, is_digit, is_name, is_not, all};
 ghost use Rattle.texts.specs.Numbers.{is_word, digits_of, number_of, most_digits};
@@ -12,14 +11,8 @@ pub const NAME_TAIL: usize = 11;
 // The most digits of which every number fits 32 bits.
 pub const MOST_DIGITS: usize = 9;
 
-// Whether both are the same bytes.
-pub fn same(a: &[u8], b: &[u8]) -> bool
-    ensures { result ≡ bytes_eq a.now b.now }
-{
-    a == b
-}
-
 // Where the byte `b` first stands from `start` on; the end of the text, or `start` beyond it, if nowhere.
+// Kept: a public function keeps what it promises, here from any `start` on, though `cut` and `Lines` ask from 0.
 pub fn until(text: &[u8], start: usize, b: u8) -> usize
     ensures value { result ≡ start + prefix_len (is_not b) (drop start text.now) }
     ensures within { start ≤ length text.now → result ≤ length text.now }

@@ -1,8 +1,10 @@
-use Rattle.std.proofs.Common.{◌≡◌, ◌∷◌, length, Some, sym, ap, ◌∙◌, arith}
+use Rattle.std.proofs.Common.{◌≡◌, ℕ, List, ◌∷◌, length, Some, Result, sym, ap, ◌∙◌, arith}
 use Rattle.std.proofs.lemmas.Result.{err_from_is_err_and}
 use Rattle.formats.specs.ReadNet.{net_reader, read_net}
 use Rattle.net_text.specs.declared.net.NetText.{NetText}
 use Rattle.net_text.specs.Nets.{net_of}
+use Rattle.net_text.specs.Reading.{end_read}
+use Rattle.formats.specs.declared.fault.TextFault.{TextFault}
 use Rattle.texts.specs.declared.at.At.{At}
 use Rattle.texts.specs.Walking.{numbered_lines, read_on, lines_left}
 use Rattle.texts.proofs.Walking.{first_at, some_line}
@@ -17,10 +19,10 @@ returns-in_err-check_text c =
     rw (p.1, p.2) (refuses c.args.text.now _ (text_refused net_reader c.args.text.now _ c.in_err-check_text.ensures))
 
 -- a text that passed has a line
-pub returns-in_default : goal.returns-in_default
-returns-in_default c =
+pub unreachable-requires : goal.unreachable-requires
+unreachable-requires c =
     let t = text_passed net_reader c.args.text.now c.in_ok-check_text.ensures in
-    absurd (some_line c.args.text.now t.0.0 t.0.2 (sym c.new-lines.ensures ∙ c.in_default.ensures.steps.0))
+    some_line c.args.text.now t.0.0 t.0.2 (sym c.new-lines.ensures ∙ c.in_default.ensures.steps.0)
 
 -- the first line
 starts : (c : In-Some) → numbered_lines c.args.text.now ≡ (c.in-Some.at, c.in-Some.first.now) ∷ lines_left c.next.new.self
@@ -53,15 +55,21 @@ returns-in_err-read_lines c =
     let p = err_from_is_err_and c.from_residual-in_err-read_lines.result c.from_residual-in_err-read_lines.ensures.1 in
     rw (p.1, p.2) (lines_refused c.args.text.now _ _ (comes (goal.at.returns-in_err-read_lines c).After-read_lines) _ c.in_err-read_lines.ensures.answer)
 
+-- what the end of the text answers, for the text that was read
+abbrev ended : (t : List ℕ) (n : NetText) → Result (Unit {0}) TextFault
+ended t n = end_read (net_of t n) (length t)
+
 pub returns-in_err-check_end : goal.returns-in_err-check_end
 returns-in_err-check_end c =
     let p = err_from_is_err_and c.from_residual-in_err-check_end.result c.from_residual-in_err-check_end.ensures.1 in
     let bs = c.args.text.now in
+    let n = c.read_lines.new.self.net in
     rw (p.1, p.2)
-    (refuses bs _ (comes (goal.at.returns-in_err-check_end c).After-read_lines ∙ c.in_ok-read_lines.ensures.answer ∙ end_refused (net_of bs c.read_lines.new.self.net) (length bs) _ (c.in_err-check_end.ensures bs)))
+    (refuses bs _ (comes (goal.at.returns-in_err-check_end c).After-read_lines ∙ c.in_ok-read_lines.ensures.answer ∙ end_refused (net_of bs n) (length bs) _ (c.in_err-check_end.ensures ∙ ap (λ t. ended t n) c.in_ok-read_lines.ensures.text)))
 
 pub returns : goal.returns
 returns c =
     let bs = c.args.text.now in
-    accepts bs _ (comes (goal.at.returns c).After-read_lines ∙ c.in_ok-read_lines.ensures.answer ∙ end_passed (net_of bs c.read_lines.new.self.net) (length bs) (c.in_ok-check_end.ensures bs))
+    let n = c.read_lines.new.self.net in
+    accepts bs _ (comes (goal.at.returns c).After-read_lines ∙ c.in_ok-read_lines.ensures.answer ∙ end_passed (net_of bs n) (length bs) (c.in_ok-check_end.ensures ∙ ap (λ t. ended t n) c.in_ok-read_lines.ensures.text))
     c.in_ok-read_lines.ensures.located
