@@ -6,10 +6,7 @@
 --   bank_net     the net of n places, with the controllable moves c
 --   net_of       the net of a bank
 --   tokens_of    the tokens at each place of a bank
---   ground_fault the fault of the move t at the ground place p
-use Rattle.std.specs.Prelude.{ℕ, ◌+◌, ◌*◌, ◌/◌, ◌%◌, ◌^◌, Bool, cond, ◌&&◌, Some, ◌==◌, nat_lt}
-use Rattle.model.specs.declared.refusal.Refusal.{Refusal}
-use Rattle.model.specs.declared.fault.Fault.{Fault}
+use Rattle.std.specs.Prelude.{ℕ, ◌+◌, ◌*◌, ◌/◌, ◌%◌, ◌^◌, Bool, cond, ◌&&◌, ◌==◌, nat_lt}
 use Rattle.model.specs.Net.{Net}
 use Rattle.bank.specs.declared.bank.Bank.{Bank}
 
@@ -43,6 +40,3 @@ net_of b = bank_net b.count (letter b.letters)
 
 abbrev pub tokens_of : Bank → ℕ → ℕ
 tokens_of b = bit b.tokens
-
-abbrev pub ground_fault : Refusal → ℕ → ℕ → Fault
-ground_fault why t p = record { refusal = why; transition = Some t; spot = Some (record { place = p; layer = 0; row = 0 }) }

@@ -1,34 +1,24 @@
 -- What a bank is made of: the records of a net text.
 --   Single                the place p has the limit 1 and at most one token
 --   AllSingle             all places are so
---   TokensRead            what is read of the places: a word with their tokens as its bits, if all of them are single
---   LettersRead           a word with the letters of the moves as its bits
 --   Shaped                a bank's kind and counts: four places a machine, one to eight machines, as many moves as places
 --   BankText              a net text that a bank is made from
 --   Made                  the net of the bank b is that of the moves' letters, and its tokens are those of the places
 --   Makes                 a bank that is made of x, if x is the text of one; else none
-use Rattle.std.specs.Prelude.{◌≡◌, ℕ, ◌%◌, ◌^◌, ◌<◌, ◌≤◌, List, length, Some, None, vec_items, Option}
+use Rattle.std.specs.Prelude.{◌≡◌, ℕ, ◌%◌, ◌<◌, ◌≤◌, List, length, Some, None, vec_items, Option}
 use Rattle.formats.specs.declared.kind.Kind.TheVariants.{Bank as bank_kind}
 use Rattle.model.specs.Sizes.{most_places}
 use Rattle.net_text.specs.declared.net.Place.{Place}
-use Rattle.net_text.specs.declared.net.Move.{Move}
 use Rattle.net_text.specs.declared.net.NetText.{NetText}
 use Rattle.net_text.specs.Nets.{tokens_at, limit_at, letter_at}
 use Rattle.bank.specs.declared.bank.Bank.{Bank}
-use Rattle.bank.specs.Banks.{bit, letter, bank_net, net_of, tokens_of}
+use Rattle.bank.specs.Banks.{bank_net, net_of, tokens_of}
 
 abbrev pub Single : List Place → ℕ → Type 0
 Single ps p = (limit_at ps p ≡ 1) × (tokens_at ps p ≤ 1)
 
 abbrev pub AllSingle : List Place → Type 0
 AllSingle ps = (p : ℕ) → p < length ps → Single ps p
-
-abbrev pub TokensRead : List Place → Option ℕ → Type 0
-TokensRead ps (Some w) = AllSingle ps × (w < 2 ^ length ps) × ((p : ℕ) → p < length ps → bit w p ≡ tokens_at ps p)
-TokensRead ps None = AllSingle ps → ⊥
-
-abbrev pub LettersRead : List Move → ℕ → Type 0
-LettersRead ms w = (t : ℕ) → t < length ms → letter w t ≡ letter_at ms t
 
 pub record Shaped (x : NetText) : Type 0 where
   pub kind : x.kind ≡ bank_kind

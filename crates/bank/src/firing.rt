@@ -1,6 +1,6 @@
 // What moves in a bank. Each call looks at one place, by its bit.
 ghost use Rattle.std.specs.Prelude.{◌≡◌, ◌^◌, ◌<◌, true, refl};
-ghost use Rattle.model.specs.Plant.{accepted, short_place, over_place, begin_answer, finish_answer, back_answer, begun, finished, gone_back};
+ghost use Rattle.model.specs.Plant.{accepted, begin_answer, finish_answer, back_answer, begun, finished, gone_back};
 ghost use Rattle.model.specs.Layer.{plant_alone};
 ghost use Rattle.bank.specs.Banks.{bit, net_of, tokens_of};
 ghost use Rattle.bank.specs.Ranging.{tokens_within};
@@ -9,48 +9,10 @@ use crate::bank::Bank;
 use crate::bits::{bit_at, has_bit, with_bit, without_bit};
 use crate::reading::next_place;
 use model::fault::Fault;
-use model::refusal::Refusal;
 use plant::net::Net;
 use plant::plant::Plant;
 
 impl Bank {
-    // The place that is short of what the move `t` takes.
-    fn short(&self, t: usize) -> Option<usize>
-        requires { t < self.now.count }
-        ensures { result ≡ short_place (net_of self.now) (tokens_of self.now) t }
-    {
-        if has_bit(self.tokens, t) {
-            None
-        } else {
-            Some(t)
-        }
-    }
-
-    // The place that has no room for what the move `t` gives.
-    fn full_after(&self, t: usize) -> Option<usize>
-        requires { t < self.now.count }
-        ensures { result ≡ over_place (net_of self.now) (tokens_of self.now) (λ p. (net_of self.now).give p t) }
-    {
-        let p = next_place(t);
-        if has_bit(self.tokens, p) {
-            Some(p)
-        } else {
-            None
-        }
-    }
-
-    // The place that has no room for what the move `t` takes.
-    fn full_before(&self, t: usize) -> Option<usize>
-        requires { t < self.now.count }
-        ensures { result ≡ over_place (net_of self.now) (tokens_of self.now) (λ p. (net_of self.now).take p t) }
-    {
-        if has_bit(self.tokens, t) {
-            Some(t)
-        } else {
-            None
-        }
-    }
-
     // The tokens once the move `t` has begun.
     fn taken(&self, t: usize) -> u32
         requires { accepted (begin_answer (net_of self.now) (tokens_of self.now) t) ≡ true }
@@ -96,21 +58,20 @@ impl Plant for Bank {
         }
     }
 
-    fn may_begin(&self, t: usize) -> Result<(), Fault> {
-        self.known(t)?;
-        self.refuse_at(Refusal::Short, t, self.short(t))
+    fn short_place(&self, t: usize) -> Option<usize> {
+        (t < self.count && !has_bit(self.tokens, t)).then_some(t)
     }
 
-    fn may_finish(&self, t: usize) -> Result<(), Fault> {
-        self.known(t)?;
-        self.refuse_at(Refusal::OverLimit, t, self.full_after(t))
+    fn over_by_give(&self, t: usize) -> Option<usize> {
+        let p = next_place(t);
+        (t < self.count && has_bit(self.tokens, p)).then_some(p)
     }
 
-    fn may_back(&self, t: usize) -> Result<(), Fault> {
-        self.known(t)?;
-        self.refuse_at(Refusal::OverLimit, t, self.full_before(t))
+    fn over_by_take(&self, t: usize) -> Option<usize> {
+        (t < self.count && has_bit(self.tokens, t)).then_some(t)
     }
 
+    // Kept: one `self.fire(self.may_begin(t), self.taken(t))` for the three would ask for the tokens of a move that may not begin.
     fn begin(&mut self, t: usize) -> Result<(), Fault> {
         self.may_begin(t)?;
         self.tokens = self.taken(t);

@@ -1,79 +1,64 @@
 // A bank from the records of a net text.
-ghost use Rattle.std.specs.Prelude.{◌≡◌, ℕ, ◌+◌, ◌^◌, ◌<◌, ◌≤◌, length, if◌then◌else◌, MatchBool};
-ghost use Rattle.model.specs.Sizes.{most_places, most_moves};
-ghost use Rattle.bank.specs.Banks.{bit};
-ghost use Rattle.bank.specs.Making.{TokensRead, LettersRead, Shaped, Makes};
+ghost use Rattle.std.specs.Prelude.{◌≡◌, ℕ, ◌^◌, ◌<◌, ◌≤◌, Bool, false, length, map, slice_index_or, MatchBool};
+ghost use Rattle.std.specs.Fn.{FnReturnsAt};
+ghost use Rattle.model.specs.Sizes.{most_places};
+ghost use Rattle.bank.specs.Banks.{letter};
+ghost use Rattle.bank.specs.Making.{AllSingle, BankText, Makes};
 
 use crate::bank::Bank;
 use crate::bits::with_bit;
 use formats::kind::Kind;
 use model::sizes::MOST_PLACES;
-use net_text::net::{Move, NetText, Place};
+use net_text::net::{NetText, Place};
 
-// The word `w` of `p` bits with one bit more.
-fn with_next(w: u32, p: usize, on: bool) -> u32
-    requires { (p < 32) × (w < 2 ^ p) }
-    ensures inside { result < 2 ^ (p + 1) }
-    ensures here { bit result p ≡ (if on then 1 else 0) }
-    ensures others { (q : ℕ) → q < p → bit result q ≡ bit w q }
-{
-    if on { with_bit(w, p) } else { w }
-}
-
-// The tokens of the places as bits; none if a place has another limit than 1, or more tokens.
-fn read_tokens(places: &[Place]) -> Option<u32>
-    requires { length places.now ≤ most_places }
-    ensures { TokensRead places.now result }
+// The word whose bit `k` tells whether the item `k` passes the test.
+fn bits<T, F: Fn(&T) -> bool>(items: &[T], test: F) -> u32
+    requires few { length items.now ≤ most_places }
+    requires test { F.IsAlwaysCallable test }
+    ensures inside { result < 2 ^ length items.now }
+    ensures bits { (f : T → Bool) → ((x : T) (b : Bool) → FnReturnsAt F.Fn test x b → b ≡ f x) → (k : ℕ) → letter result k ≡ slice_index_or (map f items.now) k false }
 {
     let mut word = 0;
-    for (p, place) in places.iter().enumerate() {
-        if place.limit != 1 || place.tokens > 1 {
-            return None;
+    for (k, item) in items.iter().enumerate() {
+        if test(item) {
+            word = with_bit(word, k);
         }
-        word = with_next(word, p, place.tokens == 1);
-    }
-    Some(word)
-}
-
-// The letters of the moves as bits.
-fn read_letters(moves: &[Move]) -> u32
-    requires { length moves.now ≤ most_moves }
-    ensures { LettersRead moves.now result }
-{
-    let mut word = 0;
-    for (t, transition) in moves.iter().enumerate() {
-        word = with_next(word, t, transition.controllable);
     }
     word
 }
 
-// Whether the kind and the counts are a bank's.
-fn is_shaped(net: &NetText) -> bool
-    ensures { MatchBool result (Shaped net.now) (Shaped net.now → ⊥) }
+// Whether all places have the limit 1 and at most one token.
+fn all_single(places: &[Place]) -> bool
+    ensures { MatchBool result (AllSingle places.now) (AllSingle places.now → ⊥) }
+{
+    places
+        .iter()
+        .all(|place| place.limit == 1 && place.tokens <= 1)
+}
+
+// Whether the kind, the counts and the places are a bank's.
+fn is_bank(net: &NetText) -> bool
+    ensures { MatchBool result (BankText net.now) (BankText net.now → ⊥) }
 {
     let count = net.places.len();
-    match net.kind {
-        Kind::Bank => count >= 4
-            && count <= MOST_PLACES
-            && count % 4 == 0
-            && net.moves.len() == count,
-        Kind::Net => false,
-        Kind::Line => false,
-    }
+    matches!(net.kind, Kind::Bank)
+        && count >= 4
+        && count <= MOST_PLACES
+        && count % 4 == 0
+        && net.moves.len() == count
+        && all_single(&net.places)
 }
 
 // The bank that a net text describes; none if it describes no bank.
 pub fn make(net: &NetText) -> Option<Bank>
     ensures { Makes net.now result }
 {
-    if !is_shaped(net) {
+    if !is_bank(net) {
         return None;
     }
-    let tokens = read_tokens(&net.places)?;
-    let letters = read_letters(&net.moves);
     Some(Bank {
         count: net.places.len(),
-        tokens,
-        letters,
+        tokens: bits(&net.places, |place| place.tokens == 1),
+        letters: bits(&net.moves, |read| read.controllable),
     })
 }

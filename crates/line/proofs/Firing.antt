@@ -1,124 +1,157 @@
 -- What a line answers: only the place before a move, or the one after it, can stop it.
-use Rattle.std.proofs.Common.{◌≡◌, ℕ, ◌+◌, ◌-◌, ◌<◌, ◌≤◌, Bool, true, false, cond, ◌&&◌, eqb, ltb, List, get_or, Ok, Err, sym, refl, ap, ◌∙◌, ⊎_elim, arith}
-use Rattle.std.proofs.lemmas.Bool.{lt-ltb, le-ltb, eq-eqb, ne_eqb, eqb-true, eqb-false, cond-true, cond-false, and_from, and_right, cases_lt, cases_eq, cases_Bool}
-use Rattle.model.specs.declared.refusal.Refusal.TheVariants.{NoMove, Short, OverLimit}
-use Rattle.model.specs.declared.fault.Fault.{Fault}
+use Rattle.std.proofs.Common.{◌≡◌, ℕ, ◌+◌, ◌-◌, ◌<◌, ◌≤◌, Bool, true, false, cond, ◌&&◌, eqb, ltb, None, Ok, List, length, get_or, slice_set, sym, refl, ◌∙◌, ⊎_elim, arith}
+use Rattle.std.specs.Bool.{then_some}
+use Rattle.std.proofs.lemmas.Bool.Decides.{nat_tests}
+use Rattle.std.proofs.lemmas.Bool.{lt-ltb, le-ltb, cond-true, cond-false, eq-eqb, ne_eqb, cases_eq}
+use Rattle.std.proofs.lemmas.List.{get_or-set_same, get_or-set_other}
 use Rattle.model.specs.Net.{Net}
-use Rattle.model.specs.Plant.{Answer, accepted, known, fault_of, refuse_unless, ◌else_by◌, begin_answer, finish_answer, back_answer}
-use Rattle.plant.proofs.Answering.{refused_at, passed}
-use Rattle.line.specs.Lines.{line_net, line_fault}
+use Rattle.model.specs.Plant.{short_place, over_place, begin_answer, finish_answer, back_answer, begun, finished, gone_back}
+use Rattle.plant.proofs.Answering.{begins, fits}
+use Rattle.line.specs.declared.slot.Slot.{Slot}
 use Rattle.plant.proofs.Lowest.{lowest_at, lowest_none}
+use Rattle.model.specs.Sizes.{most_limit}
+use Rattle.line.specs.Lines.{line_net, net_of, tokens_of}
+use Rattle.line.specs.Slots.{none, slot}
+use Rattle.line.specs.declared.line.Line.{Line}
 
--- an arc of a line: 1 at the place p if x, the number of its move, is t
-abbrev pub arc : ℕ → ℕ → ℕ → ℕ → ℕ
-arc k p x t = cond (ltb p k && eqb x t) 1 0
+module _ (s : Line) (t : ℕ) where
+  abbrev pub k : ℕ
+  k = s.count
 
-pub arc_here : (k p x t : ℕ) → p < k → x ≡ t → arc k p x t ≡ 1
-arc_here k p x t l e = cond-true _ _ _ (and_from _ _ (lt-ltb p k l) (eq-eqb x t e))
+  abbrev pub net : Net
+  net = net_of s
 
-pub arc_else : (k p x t : ℕ) → (x ≡ t → ⊥) → arc k p x t ≡ 0
-arc_else k p x t ne = cond-false _ _ _ (and_right (ltb p k) _ (ne_eqb x t ne))
+  abbrev pub held : ℕ → ℕ
+  held = tokens_of s
 
--- what a place of the line has, of tokens or as its limit
-pub has_here : (k p x : ℕ) → p < k → cond (ltb p k) x 0 ≡ x
-has_here k p x l = cond-true _ _ _ (lt-ltb p k l)
+  abbrev pub limit : ℕ → ℕ
+  limit p = (slot s.slots p).limit
 
-pub has_least : (k p x y : ℕ) → x ≤ y → cond (ltb p k) x 0 ≤ cond (ltb p k) y 0
-has_least k p x y l = elim (ltb p k) as (λ b. cond b x 0 ≤ cond b y 0) [ true ↦ l | false ↦ omega arith ]
+  abbrev pub tokens : ℕ → ℕ
+  tokens p = (slot s.slots p).tokens
 
-abbrev pub net : ℕ → List ℕ → List Bool → Net
-net k ls cs = line_net k (λ p. get_or ls p 0) (λ u. get_or cs u false)
+  -- the first move takes from no place
+  pub short_first : t ≡ 0 → short_place net held t ≡ None
+  short_first z = lowest_none (λ p. ltb (held p) (net.take p t)) k (λ p l. le-ltb (held p) (net.take p t) (grind (arith, nat_tests)))
 
-abbrev pub held : ℕ → List ℕ → ℕ → ℕ
-held k ts p = cond (ltb p k) (get_or ts p 0) 0
-
--- a call is not both accepted and refused
-apart : {X : Type 0} (u : Unit {0}) (f : Fault) (a : Answer) → Err f ≡ a → Ok u ≡ a → X
-apart u f a e o = let z : ◌≡◌ {A = ℕ} 0 1 = ap (λ (b : Answer). cond (accepted b) 1 0) e ∙ sym (ap (λ (b : Answer). cond (accepted b) 1 0) o) in absurd (omega arith)
-
--- an accepted move is one of the line's
-known_ok : (n : Net) (t : ℕ) (a : Answer) (u : Unit {0}) → Ok u ≡ (known n t else_by a) → t < n.moves
-known_ok n t a u o =
-    ⊎_elim (λ l. l) (λ h. apart u (fault_of NoMove t) _ (sym (ap (λ (b : Bool). refuse_unless b (fault_of NoMove t) else_by a) (le-ltb t n.moves h))) o) (cases_lt t n.moves)
-
-module _ (k : ℕ) (ls ts : List ℕ) (cs : List Bool) (t : ℕ) where
-  -- the place p before the move t is t - 1
-  before : (p : ℕ) → p + 1 ≡ t → (xs : List ℕ) → get_or xs p 0 ≡ get_or xs (t - 1) 0
-  before p e xs = ap (λ j. get_or xs j 0) (omega arith)
-
-  pub begin_short : t ≤ k → 0 < t → eqb (get_or ts (t - 1) 0) 0 ≡ true → Err (line_fault Short t (t - 1)) ≡ begin_answer (net k ls cs) (held k ts) t
-  begin_short l some z =
-      let h : t - 1 < k = omega arith in
-      refused_at (net k ls cs) Short t (t - 1) 0 0 _ (omega arith)
-      (lowest_at (λ p. ltb (held k ts p) ((net k ls cs).take p t)) k (t - 1) h
-      (λ p lt. le-ltb _ _ (omega (arith, arc_else k p (p + 1) t (λ f. omega arith))))
-      (lt-ltb _ _ (omega (arith, eqb-true _ _ z, has_here k (t - 1) (get_or ts (t - 1) 0) h, arc_here k (t - 1) (t - 1 + 1) t h (omega arith)))))
-      refl refl
-
-  pub begin_passes : t ≤ k → (0 < t → eqb (get_or ts (t - 1) 0) 0 ≡ false) → Ok tt ≡ begin_answer (net k ls cs) (held k ts) t
-  begin_passes l some =
-      passed (net k ls cs) Short t _ (omega arith)
-      (lowest_none (λ p. ltb (held k ts p) ((net k ls cs).take p t)) k (λ p h.
-      ⊎_elim
-      (λ e. le-ltb _ _ (omega (arith, positive (get_or ts (t - 1) 0) (some (omega arith)), before p e ts, has_here k p (get_or ts p 0) h, arc_here k p (p + 1) t h e)))
-      (λ ne. le-ltb _ _ (omega (arith, arc_else k p (p + 1) t ne)))
-      (cases_eq (p + 1) t)))
+  pub short_is : 1 ≤ t → short_place net held t ≡ then_some (ltb (t - 1) k && eqb (tokens (t - 1)) 0) (t - 1)
+  short_is some = go (ltb (t - 1) k && eqb (tokens (t - 1)) 0) refl
     where
-      positive : (n : ℕ) → eqb n 0 ≡ false → 0 < n
-      positive n ne = ⊎_elim (λ h. h) (λ z. absurd (eqb-false n 0 ne (omega arith))) (cases_lt 0 n)
+      go : (b : Bool) → (ltb (t - 1) k && eqb (tokens (t - 1)) 0) ≡ b → short_place net held t ≡ then_some b (t - 1)
+      go true e =
+          lowest_at (λ p. ltb (held p) (net.take p t)) k (t - 1) (grind (arith, nat_tests))
+          (λ p l. le-ltb (held p) (net.take p t) (grind (arith, nat_tests))) (lt-ltb (held (t - 1)) (net.take (t - 1) t) (grind (arith, nat_tests)))
+      go false e = lowest_none (λ p. ltb (held p) (net.take p t)) k (λ p l. le-ltb (held p) (net.take p t) (grind (arith, nat_tests)))
 
-  -- what an accepted begin tells of the place before the move
-  pub begin_ok : (u : Unit {0}) → 0 < t → Ok u ≡ begin_answer (net k ls cs) (held k ts) t → (t - 1 < k) × (0 < get_or ts (t - 1) 0)
-  begin_ok u some o =
-      let l : t < k + 1 = known_ok (net k ls cs) t _ u o in
-      let h : t ≤ k = omega arith in
-      (omega arith, ⊎_elim (λ z. z) (λ z. apart u (line_fault Short t (t - 1)) _ (begin_short h some (eq-eqb _ _ (omega arith))) o) (cases_lt 0 (get_or ts (t - 1) 0)))
+  pub over_take_first : t ≡ 0 → over_place net held (λ p. net.take p t) ≡ None
+  over_take_first z =
+      lowest_none (λ p. ltb (net.limit p) (held p + net.take p t)) k (λ p l. le-ltb (net.limit p) (held p + net.take p t) (grind (arith, nat_tests, s.held p)))
 
-  module _ (within : (p : ℕ) → get_or ts p 0 ≤ get_or ls p 0) where
-    less : (q : ℕ) → eqb (get_or ts q 0) (get_or ls q 0) ≡ false → get_or ts q 0 < get_or ls q 0
-    less q ne = ⊎_elim (λ h. h) (λ z. absurd (eqb-false _ _ ne (omega (arith, within q)))) (cases_lt (get_or ts q 0) (get_or ls q 0))
+  pub over_take_is : 1 ≤ t → over_place net held (λ p. net.take p t) ≡ then_some (ltb (t - 1) k && eqb (tokens (t - 1)) (limit (t - 1))) (t - 1)
+  over_take_is some = go (ltb (t - 1) k && eqb (tokens (t - 1)) (limit (t - 1))) refl
+    where
+      go : (b : Bool) → (ltb (t - 1) k && eqb (tokens (t - 1)) (limit (t - 1))) ≡ b → over_place net held (λ p. net.take p t) ≡ then_some b (t - 1)
+      go true e =
+          lowest_at (λ p. ltb (net.limit p) (held p + net.take p t)) k (t - 1) (grind (arith, nat_tests))
+          (λ p l. le-ltb (net.limit p) (held p + net.take p t) (grind (arith, nat_tests, s.held p)))
+          (lt-ltb (net.limit (t - 1)) (held (t - 1) + net.take (t - 1) t) (grind (arith, nat_tests)))
+      go false e =
+          lowest_none (λ p. ltb (net.limit p) (held p + net.take p t)) k (λ p l. le-ltb (net.limit p) (held p + net.take p t) (grind (arith, nat_tests, s.held p)))
 
-    pub back_over : t ≤ k → 0 < t → eqb (get_or ts (t - 1) 0) (get_or ls (t - 1) 0) ≡ true → Err (line_fault OverLimit t (t - 1)) ≡ back_answer (net k ls cs) (held k ts) t
-    back_over l some z =
-        let h : t - 1 < k = omega arith in
-        refused_at (net k ls cs) OverLimit t (t - 1) 0 0 _ (omega arith)
-        (lowest_at (λ p. ltb ((net k ls cs).limit p) (held k ts p + (net k ls cs).take p t)) k (t - 1) h
-        (λ p lt. le-ltb _ _ (omega (arith, has_least k p _ _ (within p), arc_else k p (p + 1) t (λ f. omega arith))))
-        (lt-ltb _ _ (omega (arith, eqb-true _ _ z, has_here k (t - 1) (get_or ts (t - 1) 0) h, has_here k (t - 1) (get_or ls (t - 1) 0) h, arc_here k (t - 1) (t - 1 + 1) t h (omega arith)))))
-        refl refl
+  pub over_give_is : over_place net held (λ p. net.give p t) ≡ then_some (ltb t k && eqb (tokens t) (limit t)) t
+  over_give_is = go (ltb t k && eqb (tokens t) (limit t)) refl
+    where
+      go : (b : Bool) → (ltb t k && eqb (tokens t) (limit t)) ≡ b → over_place net held (λ p. net.give p t) ≡ then_some b t
+      go true e =
+          lowest_at (λ p. ltb (net.limit p) (held p + net.give p t)) k t (grind (arith, nat_tests))
+          (λ p l. le-ltb (net.limit p) (held p + net.give p t) (grind (arith, nat_tests, s.held p)))
+          (lt-ltb (net.limit t) (held t + net.give t t) (grind (arith, nat_tests)))
+      go false e =
+          lowest_none (λ p. ltb (net.limit p) (held p + net.give p t)) k (λ p l. le-ltb (net.limit p) (held p + net.give p t) (grind (arith, nat_tests, s.held p)))
 
-    pub back_passes : t ≤ k → (0 < t → eqb (get_or ts (t - 1) 0) (get_or ls (t - 1) 0) ≡ false) → Ok tt ≡ back_answer (net k ls cs) (held k ts) t
-    back_passes l some =
-        passed (net k ls cs) OverLimit t _ (omega arith)
-        (lowest_none (λ p. ltb ((net k ls cs).limit p) (held k ts p + (net k ls cs).take p t)) k (λ p h.
-        ⊎_elim
-        (λ e. le-ltb _ _ (omega (arith, less (t - 1) (some (omega arith)), before p e ts, before p e ls, has_here k p (get_or ts p 0) h, has_here k p (get_or ls p 0) h, arc_here k p (p + 1) t h e)))
-        (λ ne. le-ltb _ _ (omega (arith, has_least k p _ _ (within p), arc_else k p (p + 1) t ne)))
-        (cases_eq (p + 1) t)))
+  -- what an accepted call tells of the place that it changes
+  pub begin_ok : Ok tt ≡ begin_answer net held t → (p : ℕ) → p + 1 ≡ t → (p < k) × (1 ≤ tokens p)
+  begin_ok e p here =
+      let b : (t < k + 1) × ((q : ℕ) → q < k → net.take q t ≤ held q) = begins net held t e in
+      let l : p < k = omega (arith, b.0) in
+      (l, grind (arith, nat_tests, b.1 p l))
 
-    pub back_ok : (u : Unit {0}) → 0 < t → Ok u ≡ back_answer (net k ls cs) (held k ts) t → (t - 1 < k) × (get_or ts (t - 1) 0 < get_or ls (t - 1) 0)
-    back_ok u some o =
-        let l : t < k + 1 = known_ok (net k ls cs) t _ u o in
-        let h : t ≤ k = omega arith in
-        (omega arith, ⊎_elim (λ z. apart u (line_fault OverLimit t (t - 1)) _ (back_over h some z) o) (less (t - 1)) (cases_Bool (eqb (get_or ts (t - 1) 0) (get_or ls (t - 1) 0))))
+  pub back_ok : Ok tt ≡ back_answer net held t → (p : ℕ) → p + 1 ≡ t → (p < k) × (tokens p + 1 ≤ limit p)
+  back_ok e p here =
+      let b : (t < k + 1) × ((q : ℕ) → q < k → held q + net.take q t ≤ net.limit q) = fits net held (λ q. net.take q t) t e in
+      let l : p < k = omega (arith, b.0) in
+      (l, grind (arith, nat_tests, b.1 p l))
 
-    pub finish_over : t < k → eqb (get_or ts t 0) (get_or ls t 0) ≡ true → Err (line_fault OverLimit t t) ≡ finish_answer (net k ls cs) (held k ts) t
-    finish_over l z =
-        refused_at (net k ls cs) OverLimit t t 0 0 _ (omega arith)
-        (lowest_at (λ p. ltb ((net k ls cs).limit p) (held k ts p + (net k ls cs).give p t)) k t l
-        (λ p h. le-ltb _ _ (omega (arith, has_least k p _ _ (within p), arc_else k p p t (λ f. omega arith))))
-        (lt-ltb _ _ (omega (arith, eqb-true _ _ z, has_here k t (get_or ts t 0) l, has_here k t (get_or ls t 0) l, arc_here k t t t l refl))))
-        refl refl
+  pub finish_ok : Ok tt ≡ finish_answer net held t → t < k → tokens t + 1 ≤ limit t
+  finish_ok e l =
+      let b : (t < k + 1) × ((q : ℕ) → q < k → held q + net.give q t ≤ net.limit q) = fits net held (λ q. net.give q t) t e in
+      grind (arith, nat_tests, b.1 t l)
 
-    pub finish_passes : t ≤ k → (t < k → eqb (get_or ts t 0) (get_or ls t 0) ≡ false) → Ok tt ≡ finish_answer (net k ls cs) (held k ts) t
-    finish_passes l some =
-        passed (net k ls cs) OverLimit t _ (omega arith)
-        (lowest_none (λ p. ltb ((net k ls cs).limit p) (held k ts p + (net k ls cs).give p t)) k (λ p h.
-        ⊎_elim
-        (λ e. let r : t < k = omega arith in le-ltb _ _ (rw e (omega (arith, less t (some r), has_here k t (get_or ts t 0) r, has_here k t (get_or ls t 0) r, arc_here k t t t r refl))))
-        (λ ne. le-ltb _ _ (omega (arith, has_least k p _ _ (within p), arc_else k p p t ne)))
-        (cases_eq p t)))
+-- one place q has other tokens
+module _ (s : Line) (q x : ℕ) (in' : q < length s.slots) where
+  abbrev pub changed : List Slot
+  changed = slice_set s.slots q (record { limit = (slot s.slots q).limit; tokens = x })
 
-    pub finish_ok : (u : Unit {0}) → t < k → Ok u ≡ finish_answer (net k ls cs) (held k ts) t → get_or ts t 0 < get_or ls t 0
-    finish_ok u h o =
-        ⊎_elim (λ z. apart u (line_fault OverLimit t t) _ (finish_over h z) o) (less t) (cases_Bool (eqb (get_or ts t 0) (get_or ls t 0)))
+  pub slot_changed : (p : ℕ) → slot changed p ≡ cond (eqb p q) (record { limit = (slot s.slots q).limit; tokens = x }) (slot s.slots p)
+  slot_changed p =
+      ⊎_elim
+      (λ e. rw e (get_or-set_same s.slots q _ none in') ∙ sym (cond-true (eqb p q) _ _ (eq-eqb p q e)))
+      (λ ne. get_or-set_other s.slots q p _ none ne ∙ sym (cond-false (eqb p q) _ _ (ne_eqb p q ne)))
+      (cases_eq p q)
+
+  pub limit_changed : (p : ℕ) → (slot changed p).limit ≡ (slot s.slots p).limit
+  limit_changed p = ⊎_elim (λ e. rw e (rw (slot_changed q) (grind (arith, nat_tests)))) (λ (ne : p ≡ q → ⊥). rw (slot_changed p) (grind (arith, nat_tests))) (cases_eq p q)
+
+  pub some_changed : (p : ℕ) → p < s.count → 1 ≤ (slot changed p).limit
+  some_changed p l = omega (arith, limit_changed p, s.some_limits p l)
+
+  pub small_changed : (p : ℕ) → (slot changed p).limit ≤ most_limit
+  small_changed p = omega (arith, limit_changed p, s.small_limits p)
+
+  pub tokens_here : (slot changed q).tokens ≡ x
+  tokens_here = rw (slot_changed q) (grind (arith, nat_tests))
+
+  pub tokens_else : (p : ℕ) → (p ≡ q → ⊥) → (slot changed p).tokens ≡ (slot s.slots p).tokens
+  tokens_else p ne = rw (slot_changed p) (grind (arith, nat_tests))
+
+  pub held_changed : x ≤ (slot s.slots q).limit → (p : ℕ) → (slot changed p).tokens ≤ (slot changed p).limit
+  held_changed few p =
+      ⊎_elim
+      (λ e. rw e (omega (arith, limit_changed q, tokens_here)))
+      (λ ne. omega (arith, limit_changed p, tokens_else p ne, s.held p))
+      (cases_eq p q)
+
+  pub same_net : line_net s.count (λ p. (slot changed p).limit) (λ t. get_or s.controllable t false) ≡ net_of s
+  same_net = λ i. line_net s.count (λ p. limit_changed p i) (λ t. get_or s.controllable t false)
+
+  -- the tokens are as g says
+  pub moved : (g : ℕ → ℕ) → q < s.count → g q ≡ x → ((p : ℕ) → (p ≡ q → ⊥) → g p ≡ tokens_of s p) → (λ p. cond (ltb p s.count) (slot changed p).tokens 0) ≡ g
+  moved g l here else' = λ i p. at p i
+    where
+      at : (p : ℕ) → cond (ltb p s.count) (slot changed p).tokens 0 ≡ g p
+      at p =
+          ⊎_elim
+          (λ e. rw e (grind (arith, nat_tests, tokens_here, here)))
+          (λ ne. grind (arith, nat_tests, tokens_else p ne, else' p ne))
+          (cases_eq p q)
+
+module _ (s : Line) (t : ℕ) where
+  -- the tokens after an accepted call, where the place q is the one that it changes
+  pub begun_is : (e : Ok tt ≡ begin_answer (net_of s) (tokens_of s) t) (q : ℕ) → q + 1 ≡ t → (in' : q < length s.slots)
+      → (λ p. cond (ltb p s.count) (slot (changed s q ((slot s.slots q).tokens - 1) in') p).tokens 0) ≡ begun (net_of s) (tokens_of s) t
+  begun_is e q at in' =
+      moved s q _ in' (begun (net_of s) (tokens_of s) t) (begin_ok s t e q at).0
+      (rw (← e) (let l : q < s.count = (begin_ok s t e q at).0 in grind (arith, nat_tests)))
+      (λ p ne. rw (← e) (grind (arith, nat_tests)))
+
+  pub gone_back_is : (e : Ok tt ≡ back_answer (net_of s) (tokens_of s) t) (q : ℕ) → q + 1 ≡ t → (in' : q < length s.slots)
+      → (λ p. cond (ltb p s.count) (slot (changed s q ((slot s.slots q).tokens + 1) in') p).tokens 0) ≡ gone_back (net_of s) (tokens_of s) t
+  gone_back_is e q at in' =
+      moved s q _ in' (gone_back (net_of s) (tokens_of s) t) (back_ok s t e q at).0
+      (rw (← e) (let l : q < s.count = (back_ok s t e q at).0 in grind (arith, nat_tests)))
+      (λ p ne. rw (← e) (grind (arith, nat_tests)))
+
+  pub finished_is : (e : Ok tt ≡ finish_answer (net_of s) (tokens_of s) t) → t < s.count → (in' : t < length s.slots)
+      → (λ p. cond (ltb p s.count) (slot (changed s t ((slot s.slots t).tokens + 1) in') p).tokens 0) ≡ finished (net_of s) (tokens_of s) t
+  finished_is e l in' =
+      moved s t _ in' (finished (net_of s) (tokens_of s) t) l (rw (← e) (grind (arith, nat_tests))) (λ p ne. rw (← e) (grind (arith, nat_tests)))

@@ -1,3 +1,2 @@
 pub mod Firing
-pub mod Moved
 pub mod Recorded

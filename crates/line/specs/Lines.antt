@@ -3,12 +3,12 @@
 --   net_of           the net of a line
 --   tokens_of        the tokens at each place of a line
 --   line_fault       the fault of a move at a place of a line, which has no layers
---   Same             two lines with the same counts, limits and letters
-use Rattle.std.specs.Prelude.{◌≡◌, ℕ, ◌+◌, Bool, false, cond, ◌&&◌, Some, ◌==◌, nat_lt, slice_index, slice_index_or}
+use Rattle.std.specs.Prelude.{ℕ, ◌+◌, Bool, false, cond, ◌&&◌, Some, ◌==◌, nat_lt, slice_index_or}
 use Rattle.model.specs.declared.refusal.Refusal.{Refusal}
 use Rattle.model.specs.declared.fault.Fault.{Fault}
 use Rattle.model.specs.Net.{Net}
 use Rattle.line.specs.declared.line.Line.{Line}
+use Rattle.line.specs.Slots.{slot}
 
 abbrev pub line_net : ℕ → (ℕ → ℕ) → (ℕ → Bool) → Net
 line_net k limits letters = record {
@@ -25,15 +25,10 @@ line_net k limits letters = record {
 }
 
 abbrev pub net_of : Line → Net
-net_of s = line_net s.count (λ p. slice_index s.limits p) (λ t. slice_index_or s.controllable t false)
+net_of s = line_net s.count (λ p. (slot s.slots p).limit) (λ t. slice_index_or s.controllable t false)
 
 abbrev pub tokens_of : Line → ℕ → ℕ
-tokens_of s p = cond (nat_lt p s.count) (slice_index s.tokens p) 0
+tokens_of s p = cond (nat_lt p s.count) (slot s.slots p).tokens 0
 
 abbrev pub line_fault : Refusal → ℕ → ℕ → Fault
 line_fault why t p = record { refusal = why; transition = Some t; spot = Some (record { place = p; layer = 0; row = 0 }) }
-
-pub record Same (a b : Line) : Type 0 where
-  pub count : b.count ≡ a.count
-  pub limits : b.limits ≡ a.limits
-  pub controllable : b.controllable ≡ a.controllable

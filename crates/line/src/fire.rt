@@ -1,14 +1,30 @@
 // The line as a net and as a plant.
-ghost use Rattle.std.specs.Prelude.{◌≡◌, ℕ, ◌≤◌};
+ghost use Rattle.std.specs.Prelude.{◌≡◌, ℕ, ◌≤◌, ◌&&◌, ◌==◌, nat_lt};
 ghost use Rattle.model.specs.Layer.{plant_alone};
+ghost use Rattle.line.specs.Slots.{slot};
 ghost use Rattle.line.specs.Lines.{net_of, tokens_of};
 ghost use Rattle.std.proofs.Common.{rules, arith};
 
 use crate::line::Line;
 use model::fault::Fault;
-use model::refusal::Refusal;
 use plant::net::Net;
 use plant::plant::Plant;
+
+impl Line {
+    // Whether the line has the place `p`, without tokens.
+    fn is_empty(&self, p: usize) -> bool
+        ensures { result ≡ (nat_lt p self.now.count && (slot self.now.slots p).tokens == 0) }
+    {
+        p < self.count && self.slots[p].tokens == 0
+    }
+
+    // Whether the line has the place `p`, at its limit.
+    fn is_full(&self, p: usize) -> bool
+        ensures { result ≡ (nat_lt p self.now.count && (slot self.now.slots p).tokens == (slot self.now.slots p).limit) }
+    {
+        p < self.count && self.slots[p].tokens == self.slots[p].limit
+    }
+}
 
 impl Net for Line {
     ghost net = { net_of };
@@ -42,7 +58,7 @@ impl Net for Line {
     }
 
     fn limit(&self, p: usize) -> u32 {
-        if p < self.count { self.limits[p] } else { 0 }
+        self.slots[..self.count].get(p).map_or(0, |slot| slot.limit)
     }
 
     fn layer(&self, _p: usize) -> usize {
@@ -64,37 +80,30 @@ impl Plant for Line {
     ghost within = { Prim.search rules };
 
     fn free(&self, p: usize) -> u32 {
-        if p < self.count { self.tokens[p] } else { 0 }
+        self.slots[..self.count]
+            .get(p)
+            .map_or(0, |slot| slot.tokens)
     }
 
-    fn may_begin(&self, t: usize) -> Result<(), Fault> {
-        self.known(t)?;
-        if t > 0 && self.is_empty(t - 1) {
-            return Err(Fault::at(Refusal::Short, t, self.spot(t - 1)));
-        }
-        Ok(())
+    fn short_place(&self, t: usize) -> Option<usize> {
+        let p = t.checked_sub(1)?;
+        self.is_empty(p).then_some(p)
     }
 
-    fn may_finish(&self, t: usize) -> Result<(), Fault> {
-        self.known(t)?;
-        if t < self.count && self.is_full(t) {
-            return Err(Fault::at(Refusal::OverLimit, t, self.spot(t)));
-        }
-        Ok(())
+    fn over_by_give(&self, t: usize) -> Option<usize> {
+        self.is_full(t).then_some(t)
     }
 
-    fn may_back(&self, t: usize) -> Result<(), Fault> {
-        self.known(t)?;
-        if t > 0 && self.is_full(t - 1) {
-            return Err(Fault::at(Refusal::OverLimit, t, self.spot(t - 1)));
-        }
-        Ok(())
+    fn over_by_take(&self, t: usize) -> Option<usize> {
+        let p = t.checked_sub(1)?;
+        self.is_full(p).then_some(p)
     }
 
+    // Kept: one function of this and `back` would take `|n| n - 1` or `|n| n + 1`, and the first may be called only at some tokens.
     fn begin(&mut self, t: usize) -> Result<(), Fault> {
         self.may_begin(t)?;
-        if t > 0 {
-            self.lower(t - 1);
+        if let Some(p) = t.checked_sub(1) {
+            self.slots[p].tokens -= 1;
         }
         Ok(())
     }
@@ -102,15 +111,15 @@ impl Plant for Line {
     fn finish(&mut self, t: usize) -> Result<(), Fault> {
         self.may_finish(t)?;
         if t < self.count {
-            self.raise(t);
+            self.slots[t].tokens += 1;
         }
         Ok(())
     }
 
     fn back(&mut self, t: usize) -> Result<(), Fault> {
         self.may_back(t)?;
-        if t > 0 {
-            self.raise(t - 1);
+        if let Some(p) = t.checked_sub(1) {
+            self.slots[p].tokens += 1;
         }
         Ok(())
     }

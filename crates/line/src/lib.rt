@@ -4,4 +4,4 @@
 pub mod fire;
 pub mod line;
 pub mod making;
-mod slots;
+mod slot;

@@ -1,7 +1,9 @@
 // The buffer line, and what no value of it is without.
-ghost use Rattle.std.specs.Prelude.{ℕ, ◌<◌, ◌≤◌, slice_index};
+ghost use Rattle.std.specs.Prelude.{ℕ, ◌<◌, ◌≤◌};
 ghost use Rattle.model.specs.Sizes.{most_limit, most_moves};
+ghost use Rattle.line.specs.Slots.{slot};
 
+use crate::slot::Slot;
 use model::sizes::MOST_MOVES;
 
 // The most places of a line: one fewer than its moves.
@@ -11,12 +13,11 @@ pub const PLACES: usize = MOST_MOVES - 1;
 #[derive(Drop)]
 pub struct Line {
     pub(crate) count: usize,
-    pub(crate) limits: [u32; PLACES],
-    pub(crate) tokens: [u32; PLACES],
+    pub(crate) slots: [Slot; PLACES],
     pub(crate) controllable: [bool; MOST_MOVES],
     ghost some: { 1 ≤ count },
     ghost few: { count < most_moves },
-    ghost some_limits: { (p : ℕ) → p < count → 1 ≤ slice_index limits p },
-    ghost small_limits: { (p : ℕ) → slice_index limits p ≤ most_limit },
-    ghost held: { (p : ℕ) → slice_index tokens p ≤ slice_index limits p },
+    ghost some_limits: { (p : ℕ) → p < count → 1 ≤ (slot slots p).limit },
+    ghost small_limits: { (p : ℕ) → (slot slots p).limit ≤ most_limit },
+    ghost held: { (p : ℕ) → (slot slots p).tokens ≤ (slot slots p).limit },
 }

@@ -1,28 +1,22 @@
 // The line that a net text tells of.
-ghost use Rattle.line.specs.Making.{Slots, LineText, Decides, Made};
+ghost use Rattle.line.specs.Making.{LineText, Decides, Made};
 
 use crate::line::{Line, PLACES};
+use crate::slot::Slot;
 use formats::kind::Kind;
-use net_text::net::{NetText, Place};
+use net_text::net::NetText;
 use plant::front::front;
-
-fn all_slots(places: &[Place]) -> bool
-    ensures { Decides result (Slots places.now) }
-{
-    places.iter().all(|place| place.is_filled())
-}
 
 // Whether a line can be made of the net.
 fn is_line(net: &NetText) -> bool
     ensures { Decides result (LineText net.now) }
 {
     let count = net.places.len();
-    match net.kind {
-        Kind::Net | Kind::Bank => false,
-        Kind::Line => {
-            1 <= count && count <= PLACES && net.moves.len() == count + 1 && all_slots(&net.places)
-        }
-    }
+    matches!(net.kind, Kind::Line)
+        && 1 <= count
+        && count <= PLACES
+        && net.moves.len() == count + 1
+        && net.all_filled()
 }
 
 // The line that the net text tells of, if it tells of one.
@@ -34,8 +28,7 @@ pub fn make(net: &NetText) -> Option<Line>
     }
     Some(Line {
         count: net.places.len(),
-        limits: front(&net.places, 0, |place| place.limit),
-        tokens: front(&net.places, 0, |place| place.tokens),
+        slots: front(&net.places, Slot::NONE, Slot::of),
         controllable: front(&net.moves, false, |read| read.controllable),
     })
 }

@@ -1,23 +1,27 @@
-use Rattle.std.proofs.Common.{◌≡◌, ◌-◌, ◌∙◌, arith, rules}
-use Rattle.model.specs.Plant.{begun}
+use Rattle.std.proofs.Common.{◌-◌, ◌<◌, length, arith}
 use Rattle.plant.proofs.Alone.{alone_begun}
 use Rattle.line.specs.Lines.{net_of, tokens_of}
-use Rattle.line.proofs.Firing.{begin_ok, held}
-use Rattle.line.proofs.Moved.{begun_at}
+use Rattle.line.specs.Slots.{slot}
+use Rattle.line.proofs.Firing.{begin_ok, begun_is, some_changed, small_changed, held_changed, same_net}
 use Rattle.line.proofs.fire.LinePlant.begin.Goals as goal
 
-pub lower-requires : goal.lower-requires
-lower-requires c =
-    let s = c.args.self.now in
-    begin_ok s.count s.limits s.tokens s.controllable c.args.t _ c.if-t-gt0.true c.in_ok-may_begin.ensures
+pub overflow_sub-self : goal.overflow_sub-self
+overflow_sub-self c = (begin_ok c.args.self.now c.args.t c.in_ok-may_begin.ensures c.in-Some.p (omega arith)).1
 
-pub returns-then-t-gt0 : goal.returns-then-t-gt0
-returns-then-t-gt0 c =
+pub invariant_of-self-clause-some_limits : goal.invariant_of-self-clause-some_limits
+invariant_of-self-clause-some_limits c = let s = c.args.self.now in some_changed s c.in-Some.p ((slot s.slots c.in-Some.p).tokens - 1) (omega (arith, (begin_ok c.args.self.now c.args.t c.in_ok-may_begin.ensures c.in-Some.p (omega arith)).0))
+
+pub invariant_of-self-clause-small_limits : goal.invariant_of-self-clause-small_limits
+invariant_of-self-clause-small_limits c = let s = c.args.self.now in small_changed s c.in-Some.p ((slot s.slots c.in-Some.p).tokens - 1) (omega (arith, (begin_ok c.args.self.now c.args.t c.in_ok-may_begin.ensures c.in-Some.p (omega arith)).0))
+
+pub invariant_of-self-clause-held : goal.invariant_of-self-clause-held
+invariant_of-self-clause-held c = let s = c.args.self.now in held_changed s c.in-Some.p ((slot s.slots c.in-Some.p).tokens - 1) (omega (arith, (begin_ok c.args.self.now c.args.t c.in_ok-may_begin.ensures c.in-Some.p (omega arith)).0)) (omega (arith, s.held c.in-Some.p))
+
+pub returns-in-Some : goal.returns-in-Some
+returns-in-Some c =
     let s = c.args.self.now in
-    let u = c.lower.new.self in
-    let ok = begin_ok s.count s.limits s.tokens s.controllable c.args.t _ c.if-t-gt0.true c.in_ok-may_begin.ensures in
-    let answer = c.in_ok-may_begin.ensures in
-    let same : net_of u ≡ net_of s = search rules in
-    let after : tokens_of u ≡ begun (net_of s) (tokens_of s) c.args.t = (λ i. held (c.lower.ensures.same.count i) u.tokens)
-    ∙ begun_at s.count (c.args.t - 1) s.tokens u.tokens ok.0 c.lower.ensures.others s.limits s.controllable c.args.t _ (omega arith) c.in_ok-may_begin.ensures c.lower.ensures.here in
-    record { answer = answer; same = same; after = after; whole = alone_begun (net_of s) (net_of u) (tokens_of s) (tokens_of u) c.args.t _ same answer after }
+    let e = c.in_ok-may_begin.ensures in
+    let in' : c.in-Some.p < length s.slots = omega (arith, (begin_ok c.args.self.now c.args.t c.in_ok-may_begin.ensures c.in-Some.p (omega arith)).0) in
+    let same = same_net s c.in-Some.p ((slot s.slots c.in-Some.p).tokens - 1) in' in
+    let after = begun_is s c.args.t e c.in-Some.p (omega arith) in' in
+    record { answer = e; same = same; after = after; whole = alone_begun (net_of s) _ (tokens_of s) _ c.args.t _ same e after }

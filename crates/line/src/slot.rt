@@ -1,0 +1,28 @@
+// One place of the line.
+ghost use Rattle.std.specs.Prelude.{◌≡◌};
+
+use net_text::net::Place;
+
+#[derive(Clone, Copy)]
+pub(crate) struct Slot {
+    pub(crate) limit: u32,
+    pub(crate) tokens: u32,
+}
+
+impl Slot {
+    // Where there is no place.
+    pub(crate) const NONE: Slot = Slot {
+        limit: 0,
+        tokens: 0,
+    };
+
+    // As the record of the place says.
+    pub(crate) fn of(place: &Place) -> Slot
+        ensures { result ≡ record { limit = place.now.limit; tokens = place.now.tokens } }
+    {
+        Slot {
+            limit: place.limit,
+            tokens: place.tokens,
+        }
+    }
+}
