@@ -15,6 +15,8 @@ pub enum Order {
 
 impl Order {
     // What the ledger says that it would answer.
+    // Kept: beside `make`, since one match on the cases would answer pairs as `(Ledger::may_grant, Ledger::grant)`, and a clause
+    // would have to say of both function pointers that they may be called.
     pub fn ask<P: Plant>(self, ledger: &Ledger<P>) -> Result<(), Fault> {
         match self {
             Order::Grant(t) => ledger.may_grant(t),

@@ -75,7 +75,7 @@ fn run_list(rt: &HostRuntime) -> io::Result<()> {
     println!(rt; "the zone, by a list")?;
     let mut ledger = open_zone(rt)?;
     let answers = ledger.run(rt.alloc(), &zone_calls())?;
-    for answer in answers.iter() {
+    for answer in &answers {
         println!(rt; "{}", Told(*answer))?;
     }
     print!(rt; "{} answers", answers.len())?;

@@ -36,6 +36,7 @@ pub struct Written<'a>(pub &'a TypedRule);
 
 impl fmt::Display for Written<'_> {
     fn fmt<W: fmt::Write>(&self, f: &mut fmt::Formatter<W>) -> fmt::Result {
+        // Kept: the number of each place is written, so that `filter` in the place of the `if` would leave the `enumerate`.
         for (p, weight) in self.0.weights.iter().enumerate() {
             if *weight != 0 {
                 write!(f, "{weight}*p{p} ")?;

@@ -15,9 +15,20 @@ fn put<L: Plant + Drop>(rt: &HostRuntime, name: &str, layer: L) -> io::Result<L>
     Ok(layer)
 }
 
-fn put_two<P: Plant + Drop>(rt: &HostRuntime, plant: P) -> io::Result<Board<Board<P>>> {
-    let lower = put(rt, "board", Board::new(plant))?;
-    put(rt, "board", Board::new(lower))
+// What is done with boards on a plant.
+trait Case: Drop {
+    fn run<P: Plant + Drop>(self, rt: &HostRuntime, boards: Board<P>) -> io::Result<()>;
+}
+
+// The case with one board more.
+#[derive(Drop)]
+struct More<C>(C);
+
+impl<C: Case> Case for More<C> {
+    fn run<P: Plant + Drop>(self, rt: &HostRuntime, boards: Board<P>) -> io::Result<()> {
+        let more = put(rt, "board", Board::new(boards))?;
+        self.0.run(rt, more)
+    }
 }
 
 // Each call with its answer and the tokens at these places after it.
@@ -74,11 +85,16 @@ fn run_shut_monitor<P: Plant + Drop>(rt: &HostRuntime, open: P) -> io::Result<()
 }
 
 // A monitor over 63 places is not shut, one over 64 is.
-fn run_table<P: Plant + Drop>(rt: &HostRuntime, boards: Board<P>) -> io::Result<()> {
-    let mut open = put(rt, "monitor", Monitor::new(boards))?;
-    set_monitor(rt, &mut open, &typed(&[-1], -3))?;
-    println!(rt; "")?;
-    run_shut_monitor(rt, open)
+#[derive(Drop)]
+struct OnTable;
+
+impl Case for OnTable {
+    fn run<P: Plant + Drop>(self, rt: &HostRuntime, boards: Board<P>) -> io::Result<()> {
+        let mut open = put(rt, "monitor", Monitor::new(boards))?;
+        set_monitor(rt, &mut open, &typed(&[-1], -3))?;
+        println!(rt; "")?;
+        run_shut_monitor(rt, open)
+    }
 }
 
 // A monitor over a board that is shut, and calls through both.
@@ -92,45 +108,44 @@ fn run_shut_board<P: Plant + Drop>(rt: &HostRuntime, open: P) -> io::Result<()> 
 }
 
 // A board over 52 places is not shut, one over 64 is.
-fn run_bank<P: Plant + Drop>(rt: &HostRuntime, mut boards: Board<P>) -> io::Result<()> {
-    set_row(rt, &mut boards, 11, &typed(&[0, 1], 0))?;
-    println!(rt; "")?;
-    run_shut_board(rt, boards)
+#[derive(Drop)]
+struct OnBank;
+
+impl Case for OnBank {
+    fn run<P: Plant + Drop>(self, rt: &HostRuntime, mut boards: Board<P>) -> io::Result<()> {
+        set_row(rt, &mut boards, 11, &typed(&[0, 1], 0))?;
+        println!(rt; "")?;
+        run_shut_board(rt, boards)
+    }
 }
 
 // A board over 53 places is shut; a monitor over it is not, and its layer is the one above the highest that has a place.
-fn run_line<P: Plant + Drop>(rt: &HostRuntime, mut boards: Board<P>) -> io::Result<()> {
-    try_board(rt, &mut boards)?;
-    let mut top = put(rt, "monitor", Monitor::new(boards))?;
-    set_monitor(rt, &mut top, &typed(&[0, 1], 0))?;
-    println!(rt; "")?;
-    let firings = [Begin(1), Begin(0), Begin(2), Finish(2), Begin(1), Finish(1)];
-    run_firings(rt, &mut top, &firings, &[0, 1, 2, 3, 4, 53])
+#[derive(Drop)]
+struct OnLine;
+
+impl Case for OnLine {
+    fn run<P: Plant + Drop>(self, rt: &HostRuntime, mut boards: Board<P>) -> io::Result<()> {
+        try_board(rt, &mut boards)?;
+        let mut top = put(rt, "monitor", Monitor::new(boards))?;
+        set_monitor(rt, &mut top, &typed(&[0, 1], 0))?;
+        println!(rt; "")?;
+        let firings = [Begin(1), Begin(0), Begin(2), Finish(2), Begin(1), Finish(1)];
+        run_firings(rt, &mut top, &firings, &[0, 1, 2, 3, 4, 53])
+    }
 }
 
-// Four boards on the plant. A function for every two boards keeps the types that one of them names short.
-fn put_four<P: Plant + Drop>(
-    rt: &HostRuntime,
-    plant: P,
-) -> io::Result<Board<Board<Board<Board<P>>>>> {
-    let two = put_two(rt, plant)?;
-    put_two(rt, two)
-}
-
-type Five<P> = Board<Board<Board<Board<Board<P>>>>>;
-
-// Five boards on the plant.
-fn put_five<P: Plant + Drop>(rt: &HostRuntime, plant: P) -> io::Result<Five<P>> {
+// The case on five boards on the plant. A board at a time keeps the types that a function names short.
+fn run_case<P: Plant + Drop, C: Case>(rt: &HostRuntime, plant: P, case: C) -> io::Result<()> {
     let plant = put(rt, "plant", plant)?;
-    let four = put_four(rt, plant)?;
-    put(rt, "board", Board::new(four))
+    let first = put(rt, "board", Board::new(plant))?;
+    More(More(More(More(case)))).run(rt, first)
 }
 
 pub fn run(rt: &HostRuntime) -> io::Result<()> {
     println!(rt; "layers over a table of 3 places")?;
-    run_table(rt, put_five(rt, make_table(rt, "n1.net")?)?)?;
+    run_case(rt, make_table(rt, "n1.net")?, OnTable)?;
     println!(rt; "layers over a bank of 4 places")?;
-    run_bank(rt, put_five(rt, make_bank(rt, "machine.net")?)?)?;
+    run_case(rt, make_bank(rt, "machine.net")?, OnBank)?;
     println!(rt; "layers over a line of 5 places")?;
-    run_line(rt, put_five(rt, make_line(rt, "five.net")?)?)
+    run_case(rt, make_line(rt, "five.net")?, OnLine)
 }

@@ -41,29 +41,48 @@ fn set_rows<P: Plant>(
     Ok(())
 }
 
+// The rules of the two monitors and the calls through them, the rules of the board by their rows and the calls through it.
+#[derive(Drop)]
+struct Drill<'a> {
+    lower: TypedRule,
+    upper: TypedRule,
+    firings: &'a [Firing],
+    rows: &'a [(usize, TypedRule)],
+    board_firings: &'a [Firing],
+}
+
+fn run_drill<P: Plant + Drop>(rt: &HostRuntime, plant: P, drill: &Drill) -> io::Result<()> {
+    let mut pile = stack(rt, plant, &drill.lower, &drill.upper)?;
+    run_firings(rt, &mut pile, drill.firings)?;
+    let mut board = Board::new(pile);
+    set_rows(rt, &mut board, drill.rows)?;
+    run_firings(rt, &mut board, drill.board_firings)
+}
+
 // Places A, Z, B; moves in, out and ret. `out` is uncontrollable and takes 2 of Z.
 fn run_table(rt: &HostRuntime) -> io::Result<()> {
     println!(rt; "two monitors and a board over a table")?;
-    let plant = make_table(rt, "zone.net")?;
-    let mut pile = stack(rt, plant, &typed(&[0, 1], 3), &typed(&[0, 0, 3], 5))?;
-    run_firings(rt, &mut pile, &table_firings())?;
-    let mut board = Board::new(pile);
-    let rules = [
-        (0, typed(&[1], 4)),
-        (11, typed(&[-1], -2)),
-        (12, typed(&[1], 5)),
-        (0, typed(&[1], 5)),
-        (0, typed(&[100], 5)),
-        (1, typed(&[100], 5)),
-        (1, typed(&[-100], 5)),
-        (1, typed(&[0, 0, 0, 1], 5)),
-        (1, typed(&[1], 1_000_000)),
-        (1, typed(&[1], 3)),
-        (1, typed(&[-99], -999_999)),
-        (1, typed(&[99], 999_999)),
-    ];
-    set_rows(rt, &mut board, &rules)?;
-    run_firings(rt, &mut board, &table_board_firings())
+    let drill = Drill {
+        lower: typed(&[0, 1], 3),
+        upper: typed(&[0, 0, 3], 5),
+        firings: &table_firings(),
+        rows: &[
+            (0, typed(&[1], 4)),
+            (11, typed(&[-1], -2)),
+            (12, typed(&[1], 5)),
+            (0, typed(&[1], 5)),
+            (0, typed(&[100], 5)),
+            (1, typed(&[100], 5)),
+            (1, typed(&[-100], 5)),
+            (1, typed(&[0, 0, 0, 1], 5)),
+            (1, typed(&[1], 1_000_000)),
+            (1, typed(&[1], 3)),
+            (1, typed(&[-99], -999_999)),
+            (1, typed(&[99], 999_999)),
+        ],
+        board_firings: &table_board_firings(),
+    };
+    run_drill(rt, make_table(rt, "zone.net")?, &drill)
 }
 
 fn table_firings() -> [Firing; 22] {
@@ -114,24 +133,23 @@ fn table_board_firings() -> [Firing; 13] {
 // Two machines of four places; the moves 1 and 5 are uncontrollable.
 fn run_bank(rt: &HostRuntime) -> io::Result<()> {
     println!(rt; "two monitors and a board over a bank")?;
-    let plant = make_bank(rt, "machines.net")?;
-    let lower = typed(&[0, 0, 1, 0, 0, 0, 1], 1);
-    let upper = typed(&[0, 0, 0, 1, 0, 0, 0, 1], 1);
-    let mut pile = stack(rt, plant, &lower, &upper)?;
-    run_firings(rt, &mut pile, &bank_firings())?;
-    let mut board = Board::new(pile);
-    let rules = [
-        (0, typed(&[-1, 0, 0, 0, -1], -1)),
-        (1, typed(&[0, 0, 0, 1, 0, 0, 0, -1], 0)),
-        (12, typed(&[1], 1)),
-        (1, typed(&[1], 1)),
-        (2, typed(&[0, 0, 0, 0, 0, 0, 0, 0, 1], 1)),
-        (2, typed(&[0, 0, 0, 0, 0, 0, 1], 0)),
-        (2, typed(&[0, -1], 0)),
-        (3, typed(&[0, -1], -1)),
-    ];
-    set_rows(rt, &mut board, &rules)?;
-    run_firings(rt, &mut board, &bank_board_firings())
+    let drill = Drill {
+        lower: typed(&[0, 0, 1, 0, 0, 0, 1], 1),
+        upper: typed(&[0, 0, 0, 1, 0, 0, 0, 1], 1),
+        firings: &bank_firings(),
+        rows: &[
+            (0, typed(&[-1, 0, 0, 0, -1], -1)),
+            (1, typed(&[0, 0, 0, 1, 0, 0, 0, -1], 0)),
+            (12, typed(&[1], 1)),
+            (1, typed(&[1], 1)),
+            (2, typed(&[0, 0, 0, 0, 0, 0, 0, 0, 1], 1)),
+            (2, typed(&[0, 0, 0, 0, 0, 0, 1], 0)),
+            (2, typed(&[0, -1], 0)),
+            (3, typed(&[0, -1], -1)),
+        ],
+        board_firings: &bank_board_firings(),
+    };
+    run_drill(rt, make_bank(rt, "machines.net")?, &drill)
 }
 
 fn bank_firings() -> [Firing; 18] {
@@ -179,22 +197,23 @@ fn bank_board_firings() -> [Firing; 14] {
 // Three places of two; the move 2 is uncontrollable.
 fn run_line(rt: &HostRuntime) -> io::Result<()> {
     println!(rt; "two monitors and a board over a line")?;
-    let plant = make_line(rt, "buffers.net")?;
-    let mut pile = stack(rt, plant, &typed(&[0, 0, 1], 1), &typed(&[1, 1, 1], 2))?;
-    run_firings(rt, &mut pile, &line_firings())?;
-    let mut board = Board::new(pile);
-    let rules = [
-        (0, typed(&[1], 2)),
-        (5, typed(&[1, 0, -1], 1)),
-        (12, typed(&[1], 1)),
-        (5, typed(&[1], 1)),
-        (1, typed(&[-100], 0)),
-        (1, typed(&[0, 0, 0, 1], 1)),
-        (1, typed(&[1], 0)),
-        (1, typed(&[0, 0, -1], -1)),
-    ];
-    set_rows(rt, &mut board, &rules)?;
-    run_firings(rt, &mut board, &line_board_firings())
+    let drill = Drill {
+        lower: typed(&[0, 0, 1], 1),
+        upper: typed(&[1, 1, 1], 2),
+        firings: &line_firings(),
+        rows: &[
+            (0, typed(&[1], 2)),
+            (5, typed(&[1, 0, -1], 1)),
+            (12, typed(&[1], 1)),
+            (5, typed(&[1], 1)),
+            (1, typed(&[-100], 0)),
+            (1, typed(&[0, 0, 0, 1], 1)),
+            (1, typed(&[1], 0)),
+            (1, typed(&[0, 0, -1], -1)),
+        ],
+        board_firings: &line_board_firings(),
+    };
+    run_drill(rt, make_line(rt, "buffers.net")?, &drill)
 }
 
 fn line_firings() -> [Firing; 14] {
