@@ -86,12 +86,6 @@ module _ {n : Net} (s : Ranges n) {w : Worked} (weights : (p : ℕ) → nat_abs 
     coded : (b m : ℕ) → b ≤ m → m < 2 ^ 31 → to_z w32 b ≡ pos b
     coded b m l r = to_z_pos w32 b (omega arith)
 
-    pub factor_fits : SFits w32 (pos (e / h))
-    factor_fits = fits (e / h) factor_low
-      where
-        fits : (b : ℕ) → b ≤ most_arc → SFits w32 (pos b)
-        fits b l = omega (arith, ints)
-
     pub addend_fits : SFits w32 (pos (a / h))
     addend_fits = fits (a / h) addend_low
       where
@@ -153,9 +147,6 @@ module _ (f b : ℤ) (factor : nat_abs f ≤ most_arc) (bound : nat_abs b ≤ mo
 
   past : nat_abs (b +ℤ pos 1) ≤ most_worked_bound + 1
   past = omega (arith, ints, bound)
-
-  pub bound_fits : SFits w32 (to_z w32 (of_z w32 f) *ℤ to_z w32 (of_z w32 (to_z w32 (of_z w32 b) +ℤ pos 1)))
-  bound_fits = rw (factor_kept f factor, past_is) (product_fits f (b +ℤ pos 1) most_arc (most_worked_bound + 1) (omega arith) factor past)
 
   pub bound_is : to_z w32 (of_z w32 (to_z w32 (of_z w32 (to_z w32 (of_z w32 f) *ℤ to_z w32 (of_z w32 (to_z w32 (of_z w32 b) +ℤ pos 1)))) -ℤ pos 1)) ≡ f *ℤ (b +ℤ pos 1) -ℤ pos 1
   bound_is = rw (factor_kept f factor, past_is) (same (f *ℤ (b +ℤ pos 1)) (abs_mul_le f (b +ℤ pos 1) most_arc (most_worked_bound + 1) factor past))

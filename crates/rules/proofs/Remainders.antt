@@ -12,9 +12,6 @@ pub record SameDivisors (a e x y : ℕ) : Type 0 where
   pub onward : (d : ℕ) → d ∣ a → d ∣ e → (d ∣ x) × (d ∣ y)
   pub back : (d : ℕ) → d ∣ x → d ∣ y → (d ∣ a) × (d ∣ e)
 
-pub same_first : (a e : ℕ) → SameDivisors a e a e
-same_first a e = record { onward = λ d h k. (h, k); back = λ d h k. (h, k) }
-
 pub same_next : {a e x y : ℕ} → SameDivisors a e x y → SameDivisors a e y (x % y)
 same_next {a} {e} {x} {y} s = record {
   onward = λ d h k. let o = s.onward d h k in (o.1, (dvd-mod_iff d {m = x} {n = y} o.1).1 o.0);

@@ -5,12 +5,11 @@ use Rattle.std.proofs.lemmas.List.{get_or_past, get_or-take, get_or-drop, get_or
 use Rattle.std.proofs.lemmas.List.Folds.{list_all_more}
 use Rattle.std.proofs.lemmas.List.Sums.{AllPass-from_list_all, list_all-from_AllPass}
 use Rattle.std.proofs.lemmas.Int.{ints}
-use Rattle.std.proofs.lemmas.Bool.{cases_lt, ltb-true, ltb-false, leb-true, le-leb, eqb-true, eq-eqb, and_from, and_left, or_left, or_right, or_cases, and_parts, cases_Bool, cond-true, cond-false}
-use Rattle.model.specs.declared.refusal.Refusal.TheVariants.{NotTyped}
+use Rattle.std.proofs.lemmas.Bool.{cases_lt, ltb-true, ltb-false, leb-true, le-leb, eqb-true, eq-eqb, and_from, and_left, or_left, or_right, or_cases, and_parts, cases_Bool, cond-true}
 use Rattle.model.specs.declared.fault.Fault.{Fault}
 use Rattle.model.specs.Sizes.{most_places, most_all_places, most_weight, most_bound, most_worked_weight, most_worked_bound}
 use Rattle.model.specs.Net.{Net}
-use Rattle.model.specs.Plant.{setting_fault, refuse_unless}
+use Rattle.model.specs.Plant.{refuse_unless}
 use Rattle.model.specs.Rule.{Rule, all_below, in_range}
 use Rattle.model.specs.Working.{ground_only, is_typed}
 use Rattle.model.proofs.Working.{all_below_says, range_weights, range_bound}
@@ -138,6 +137,3 @@ module _ (n : Net) (ws : List ℤ) (b : ℤ) (size : length ws ≡ most_places) 
 pub refused_unless : (b : Bool) (f h : Fault) → Err h ≡ refuse_unless b f → (b ≡ false) × (h ≡ f)
 refused_unless true f h e = let z : ◌≡◌ {A = ℕ} 0 1 = cc in absurd (omega arith)
 refused_unless false f h e = (refl, cc)
-
-pub typed_refused : (n : Net) (r : Rule) (b : Bool) → b ≡ is_typed n r → (f : Fault) → f ≡ setting_fault NotTyped → (h : Fault) → Err h ≡ refuse_unless b f → Err h ≡ before_rounds n r
-typed_refused n r b is f e h shut = let k = refused_unless b f h shut in ap Err (k.1 ∙ e) ∙ sym (cond-false _ _ _ (sym is ∙ k.0))

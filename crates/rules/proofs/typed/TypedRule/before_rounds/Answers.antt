@@ -1,16 +1,8 @@
 use Rattle.std.proofs.Common.{◌≡◌, length, ℤ, sym, ◌∙◌, arith, w32, SFits, to_z, of_z, rules}
 use Rattle.std.proofs.lemmas.Int.{ints, to_z-of_z}
-use Rattle.std.proofs.lemmas.Result.{err_from_is_err_and}
 use Rattle.model.proofs.Checks.{refuse_unless_ok}
-use Rattle.rules.specs.Rules.{rule_of}
-use Rattle.rules.proofs.Testing.{typed_on_ground, typed_weights_small, typed_bound_small, typed_is, typed_refused}
+use Rattle.rules.proofs.Testing.{typed_on_ground, typed_weights_small, typed_bound_small, typed_is}
 use Rattle.rules.proofs.typed.TypedRule.before_rounds.Goals as goal
-
-pub returns-in_err-unless : goal.returns-in_err-unless
-returns-in_err-unless g c =
-    let e = err_from_is_err_and c.from_residual.result c.from_residual.ensures.1 in
-    rw (e.1, e.2)
-    (record { answer = typed_refused (g.N.Net.net c.args.net.now) (rule_of c.args.self.now) c.can_be_typed.result c.can_be_typed.ensures _ c.of_setting.ensures _ c.in_err-unless.ensures; by_ground = tt })
 
 pub invariant_of-result : goal.invariant_of-result
 invariant_of-result g c =

@@ -1,10 +1,6 @@
 use Rattle.std.proofs.Common.{◌≡◌, length, get_or, pos, ◌+ℤ◌, ◌*ℤ◌, ap, ◌∙◌, arith, w32, to_z, of_z, rules}
-use Rattle.std.proofs.lemmas.Int.{ints}
 use Rattle.rules.proofs.Absorbing.{factor_kept, one_added, weight_fits, weight_is}
 use Rattle.rules.proofs.worked.WorkedRule.absorbed_weights.Goals as goal
-
-pub scaled-weights-requires : goal.scaled-weights-requires
-scaled-weights-requires c = omega (arith, ints)
 
 pub overflow_add-weights : goal.overflow_add-weights
 overflow_add-weights c =

@@ -1,6 +1,6 @@
 use Rattle.std.proofs.Common.{◌-◌, nat_abs, ap₂, arith, w32, to_z, of_z}
 use Rattle.rules.specs.Rules.{worked_of}
-use Rattle.rules.proofs.Absorbing.{fall_some, cast_is, cast_fits, Reckoned, h_some, factor_fits, addend_fits, round_is, round_modest}
+use Rattle.rules.proofs.Absorbing.{fall_some, cast_is, cast_fits, Reckoned, h_some, addend_fits, round_is, round_modest}
 use Rattle.rules.proofs.worked.WorkedRule.absorption.Given as given
 use Rattle.rules.proofs.worked.WorkedRule.absorption.Goals as goal
 
@@ -20,9 +20,6 @@ reckoned g c = record {
 
 pub nonzero_div-result : goal.nonzero_div-result
 nonzero_div-result g c = h_some (g.met.N.Net.sound c.args.net.now) c.args.self.now.small_weights c.requires (reckoned g c)
-
-pub overflow_cast-result : goal.overflow_cast-result
-overflow_cast-result g c = factor_fits (g.met.N.Net.sound c.args.net.now) c.args.self.now.small_weights c.requires (reckoned g c)
 
 pub nonzero_div-result-2 : goal.nonzero_div-result-2
 nonzero_div-result-2 g c = h_some (g.met.N.Net.sound c.args.net.now) c.args.self.now.small_weights c.requires (reckoned g c)

@@ -1,28 +1,17 @@
-use Rattle.std.proofs.Common.{Some, None, sym, ap, arith}
+use Rattle.std.proofs.Common.{Some, None, arith}
 use Rattle.std.proofs.lemmas.Bool.{lt-ltb, le-ltb}
 use Rattle.model.specs.Working.{rising, falls}
-use Rattle.plant.proofs.Lowest.{sought_first, sought_on, found_here, found_nowhere}
+use Rattle.plant.proofs.Lowest.{sought_on, found_here, found_nowhere}
 use Rattle.rules.specs.Rules.{worked_of}
-use Rattle.rules.specs.Searching.{rising_at}
 use Rattle.rules.proofs.Finding.{held, rises, stays, found}
 use Rattle.rules.proofs.worked.WorkedRule.rising.Goals as goal
 use Rattle.rules.proofs.worked.WorkedRule.rising.Goals.{else-not-controllable-via-then-not-controllable+else-raise-gt0, else-not-controllable-via-else-not-controllable}
-
-pub places-init : goal.places-init
-places-init g c =
-    let n = g.N.Net.net c.args.net.now in
-    sought_first (falls n c.moves.t) n.ground_places
 
 pub places-preserved : goal.places-preserved
 places-preserved g c =
     let n = g.N.Net.net c.args.net.now in
     sought_on (falls n c.moves.t) n.ground_places c.places.p c.places.invariant (omega (arith, c.ground-p-end.ensures))
     (le-ltb _ _ (omega (arith, c.give.ensures, c.take.ensures)))
-
-pub moves-init : goal.moves-init
-moves-init g c =
-    let n = g.N.Net.net c.args.net.now in
-    sought_first (rising n (worked_of c.args.self.now)) n.moves
 
 pub moves-preserved : goal.moves-preserved
 moves-preserved g c =
@@ -52,9 +41,3 @@ returns-after-places g c =
     (found_here (rising n w) n.moves c.moves.t c.moves.invariant (omega (arith, c.moves-t-end.ensures))
     (rises n w c.moves.t c.controllable.result c.controllable.ensures c.raise.result (record { sfits = c.raise.type_inv }) c.raise.ensures c.if-not-controllable.true c.if-raise-gt0.true))
     (found_nowhere (falls n c.moves.t) n.ground_places c.places.p c.places.invariant (omega (arith, c.ground-p-end.ensures)))
-
-pub returns-after-moves : goal.returns-after-moves
-returns-after-moves g c =
-    let n = g.N.Net.net c.args.net.now in
-    let w = worked_of c.args.self.now in
-    sym (ap (rising_at n) (found_nowhere (rising n w) n.moves c.moves.t c.moves.invariant (omega (arith, c.moves-t-end.ensures))))
