@@ -1,6 +1,5 @@
 -- What is asked of all records of a net text, and of one.
-use Rattle.std.proofs.Common.{◌≡◌, ℕ, zero, suc, ◌<◌, ◌≤◌, Bool, true, ◌&&◌, ltb, leb, List, [], ◌∷◌, length, get_or, refl, ap, arith}
-use Rattle.std.specs.List.{list_all}
+use Rattle.std.proofs.Common.{◌≡◌, ℕ, zero, suc, ◌<◌, ◌≤◌, Bool, true, ◌&&◌, ltb, leb, List, [], ◌∷◌, length, get_or, arith}
 use Rattle.std.proofs.lemmas.Bool.{and_parts, ltb-true, leb-true}
 use Rattle.formats.specs.Words.{all}
 use Rattle.net_text.specs.declared.net.Arc.{Arc}
@@ -8,10 +7,6 @@ use Rattle.net_text.specs.declared.net.Place.{Place}
 use Rattle.net_text.specs.Filled.{is_filled}
 use Rattle.model.specs.Sizes.{most_limit, most_arc}
 use Rattle.table.specs.Made.{joins}
-
-pub all_is : {X : Type 0} (t : X → Bool) (xs : List X) → list_all t xs ≡ all t xs
-all_is t [] = refl
-all_is t (x ∷ xs) = ap (λ (b : Bool). t x && b) (all_is t xs)
 
 -- a test that all pass, at one of them
 pub all_at : {X : Type 0} (t : X → Bool) (xs : List X) (i : ℕ) (d : X) → all t xs ≡ true → i < length xs → t (get_or xs i d) ≡ true

@@ -1,14 +1,29 @@
 // The table as a net and as a plant.
-ghost use Rattle.std.specs.Prelude.{◌≡◌, ℕ, ◌≤◌};
+ghost use Rattle.std.specs.Prelude.{◌≡◌, ℕ, ◌≤◌, if◌then◌else◌, ◌&&◌, nat_lt};
 ghost use Rattle.model.specs.Layer.{plant_alone};
+ghost use Rattle.table.specs.Cells.{none, cell};
 ghost use Rattle.table.specs.Tables.{net_of, tokens_of};
 ghost use Rattle.std.proofs.Common.{rules, arith};
 
+use crate::cell::Cell;
 use crate::table::Table;
 use model::fault::Fault;
 use plant::net::Net;
 use plant::plant::Plant;
 use std::array;
+
+impl Table {
+    // The arc between the place `p` and the move `t`; none if there is no such place or move.
+    fn arc(&self, p: usize, t: usize) -> Cell
+        ensures { result ≡ (if nat_lt p self.now.places && nat_lt t self.now.moves then cell self.now.arcs p t else none) }
+    {
+        if p < self.places && t < self.moves {
+            self.arcs[t][p]
+        } else {
+            Cell::NONE
+        }
+    }
+}
 
 impl Net for Table {
     ghost net = { net_of };
@@ -34,23 +49,15 @@ impl Net for Table {
     }
 
     fn take(&self, p: usize, t: usize) -> u32 {
-        if p < self.places && t < self.moves {
-            u32::from(self.arcs[t][p].take)
-        } else {
-            0
-        }
+        u32::from(self.arc(p, t).take)
     }
 
     fn give(&self, p: usize, t: usize) -> u32 {
-        if p < self.places && t < self.moves {
-            u32::from(self.arcs[t][p].give)
-        } else {
-            0
-        }
+        u32::from(self.arc(p, t).give)
     }
 
     fn limit(&self, p: usize) -> u32 {
-        if p < self.places { self.limits[p] } else { 0 }
+        self.limits[..self.places].get(p).copied().unwrap_or(0)
     }
 
     fn layer(&self, _p: usize) -> usize {
@@ -72,7 +79,7 @@ impl Plant for Table {
     ghost within = { Prim.search rules };
 
     fn free(&self, p: usize) -> u32 {
-        if p < self.places { self.tokens[p] } else { 0 }
+        self.tokens[..self.places].get(p).copied().unwrap_or(0)
     }
 
     fn begin(&mut self, t: usize) -> Result<(), Fault> {
@@ -81,6 +88,8 @@ impl Plant for Table {
         Ok(())
     }
 
+    // Kept: one `fn add(&mut self, t: usize, amount: impl Fn(Cell) -> u8)` for this and `back` would need clauses of what `amount`
+    // gives at each place, which are longer than both.
     fn finish(&mut self, t: usize) -> Result<(), Fault> {
         self.may_finish(t)?;
         self.tokens = array::from_fn(|p| self.tokens[p] + u32::from(self.arcs[t][p].give));

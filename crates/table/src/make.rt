@@ -2,7 +2,6 @@
 ghost use Rattle.std.specs.Prelude.{◌≡◌, ℕ, ◌≤◌, true};
 ghost use Rattle.model.specs.Sizes.{most_places, most_moves, most_arc};
 ghost use Rattle.formats.specs.Words.{all};
-ghost use Rattle.net_text.specs.Filled.{is_filled};
 ghost use Rattle.table.specs.Cells.{cell, cell_of};
 ghost use Rattle.table.specs.Made.{joins, is_fit, Made};
 
@@ -10,14 +9,8 @@ use crate::cell::Cell;
 use crate::table::Table;
 use formats::kind::Kind;
 use model::sizes::{MOST_ARC, MOST_MOVES, MOST_PLACES};
-use net_text::net::{Arc, NetText, Place};
+use net_text::net::{Arc, NetText};
 use plant::front::front;
-
-fn all_filled(places: &[Place]) -> bool
-    ensures { result ≡ all is_filled places.now }
-{
-    places.iter().all(|place| place.is_filled())
-}
 
 // Whether the arc is one of 0 to 9 between a place and a move that there are.
 fn joins(arc: &Arc, places: usize, moves: usize) -> bool
@@ -41,7 +34,7 @@ fn is_fit(net: &NetText) -> bool
     if places < 1 || places > MOST_PLACES || moves < 1 || moves > MOST_MOVES {
         return false;
     }
-    matches!(net.kind, Kind::Net) && all_filled(&net.places) && all_join(&net.arcs, places, moves)
+    matches!(net.kind, Kind::Net) && net.all_filled() && all_join(&net.arcs, places, moves)
 }
 
 // The table of the arcs, which are of places and moves that it has.
@@ -53,10 +46,7 @@ fn cells_of(arcs: &[Arc]) -> [[Cell; MOST_PLACES]; MOST_MOVES]
 {
     let mut cells = [[Cell::NONE; MOST_PLACES]; MOST_MOVES];
     for arc in arcs {
-        cells[arc.transition][arc.place] = Cell {
-            take: arc.take as u8,
-            give: arc.give as u8,
-        };
+        cells[arc.transition][arc.place] = Cell::of(arc);
     }
     cells
 }

@@ -2,7 +2,7 @@ use Rattle.std.proofs.Common.{◌∙◌, rules, tests}
 use Rattle.std.proofs.lemmas.Iterator.{YieldsList-from_slice}
 use Rattle.std.proofs.lemmas.Iterator.Search.{all_from_yields_List}
 use Rattle.table.specs.Made.{joins}
-use Rattle.table.proofs.Texts.{all_is}
+use Rattle.texts.proofs.Scanning.{all_is}
 use Rattle.table.proofs.make.all_join.Goals as goal
 
 pub returns : goal.returns

@@ -5,4 +5,4 @@ pub loop-arc-init : goal.loop-arc-init
 loop-arc-init c = filled_none c.args.arcs.now
 
 pub loop-arc-preserved : goal.loop-arc-preserved
-loop-arc-preserved c = filled_more c.args.arcs.now c.loop-arc.arc-index c.loop-arc.cells c.loop-arc.invariant c.loop-arc-test.true c.requires
+loop-arc-preserved c = rw c.of.ensures (filled_more c.args.arcs.now c.loop-arc.arc-index c.loop-arc.cells c.loop-arc.invariant c.loop-arc-test.true c.requires)
