@@ -1,8 +1,5 @@
 // A layer as a plant: the place that is in the way of a call is one below, else that of one of the layer's own rows. As a pile a shut
 // layer has blank rows, so each call says besides that it leaves those of a shut layer alone.
-// Kept: three calls alike. One for all would be `fn call(&mut self, t: usize, found: Option<usize>, refusal: Refusal, below: B, rows: F)`
-// with closures `B: FnOnce(&mut P) -> Result<(), Fault>` and `F: FnOnce(&mut R)`, and clauses of what each asks and does; and a method
-// of `Plant` that moves the tokens unasked would be public with a `requires`, which no method of a plant may have.
 ghost use Rattle.std.specs.Prelude.{◌≡◌, ℕ, true, if◌then◌else◌};
 ghost use Rattle.layers.specs.Piles.{pile_of};
 ghost use Rattle.model.specs.Layer.{is_shut, layer_free, row_count, pile_begun, pile_finished, pile_gone_back};
@@ -33,6 +30,8 @@ impl<P: Plant, R: Rows> Plant for Layer<P, R> {
         }
     }
 
+    // Kept: this search and the next two, a `match` each. One for all would take the search of the rows as a closure
+    // `F: FnOnce() -> Option<usize>`, with clauses of what it asks and what it finds, longer than the three.
     #[tactic(auto, using(crate::proofs::Calls::short_is))]
     fn short_place(&self, t: usize) -> Option<usize> {
         match self.below.short_place(t) {
@@ -57,6 +56,9 @@ impl<P: Plant, R: Rows> Plant for Layer<P, R> {
         }
     }
 
+    // Kept: this call and the next two. One for all would be `fn call<B, F>(&mut self, t: usize, why: Refusal, found: Option<usize>, below: B,
+    // rows: F)` with `B: FnOnce(&mut P) -> Result<(), Fault>` and `F: FnOnce(&mut R)`, and clauses of what each closure asks and does; and a
+    // method of `Plant` that moves the tokens unasked would be public with a `requires`, which the calls of a plant may not have.
     fn begin(&mut self, t: usize) -> Result<(), Fault>
         ensures answer { result ≡ begin_answer (⟦<Self as Net>⟧.net self.old) (⟦<Self as Plant>⟧.tokens self.old) t }
         ensures same { ⟦<Self as Net>⟧.net self.new ≡ ⟦<Self as Net>⟧.net self.old }

@@ -27,11 +27,8 @@ impl<P: Plant, R: Rows> Layer<P, R> {
     pub(crate) fn own_row(&self, p: usize) -> Option<usize>
         ensures { result ≡ own_row (row_count R.Rows.top) (P.Net.net self.now.below) p }
     {
-        let first = self.below.places();
-        if self.is_shut() || p < first || p - first >= self.rows.count() {
-            return None;
-        }
-        Some(p - first)
+        let r = p.checked_sub(self.below.places())?;
+        (!self.is_shut() && r < self.rows.count()).then_some(r)
     }
 
     // The number of this layer: one above the highest below.
