@@ -56,9 +56,9 @@ impl<P: Plant, R: Rows> Plant for Layer<P, R> {
         }
     }
 
-    // Kept: this call and the next two. One for all would be `fn call<B, F>(&mut self, t: usize, why: Refusal, found: Option<usize>, below: B,
-    // rows: F)` with `B: FnOnce(&mut P) -> Result<(), Fault>` and `F: FnOnce(&mut R)`, and clauses of what each closure asks and does; and a
-    // method of `Plant` that moves the tokens unasked would be public with a `requires`, which the calls of a plant may not have.
+    // Kept: this call and the next two. Tried: `fn call<B, F>(&mut self, counts: bool, below: B, rows: F)`, where `B` is an
+    // `FnOnce(&mut P) -> Result<(), Fault>` and `F` an `FnOnce(&mut R)`, takes five clauses, and with it the check left open each
+    // clause of `begin` and what the rows ask. A method of `Plant` that moves tokens unasked would be public with a `requires`.
     fn begin(&mut self, t: usize) -> Result<(), Fault>
         ensures answer { result ≡ begin_answer (⟦<Self as Net>⟧.net self.old) (⟦<Self as Plant>⟧.tokens self.old) t }
         ensures same { ⟦<Self as Net>⟧.net self.new ≡ ⟦<Self as Net>⟧.net self.old }
