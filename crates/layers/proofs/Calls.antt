@@ -9,7 +9,7 @@ use Rattle.model.specs.Net.{Net}
 use Rattle.model.specs.Plant.{lowest, fault_at, refuse_at, ◌else_by◌, known, short_place, over_place, begin_answer, finish_answer, back_answer}
 use Rattle.model.specs.Layer.{Row, is_shut, own_place, masked_take, masked_give, layer_net, layer_free}
 use Rattle.model.specs.Sizes.{control_limit}
-use Rattle.model.proofs.Checks.{lowest_all_fail, lowest_ext, lowest_none, refuse_at_ok}
+use Rattle.model.proofs.Checks.{else_ok, lowest_all_fail, lowest_ext, lowest_none, refuse_at_ok}
 use Rattle.model.proofs.Layering.{own_row, not_own, open_net, open_free, net_opens, net_shuts, free_opens, free_shuts}
 use Rattle.plant.proofs.Answering.{known_in, passed}
 
@@ -105,11 +105,12 @@ module _ (size : ℕ) (n : Net) (free : ℕ → ℕ) (rows : ℕ → Row) (t : �
 
   -- ---- a call that is accepted is so below, and none of its rows is in the way: o is the place that was sought in the whole, p the one below
   accepted : (why : Refusal) (own : ℕ → Bool) (c : Bool) (o p : Option ℕ) → o ≡ option_or p (rows_place c own)
-      → Ok tt ≡ known (layer_net size n rows) t → Ok tt ≡ refuse_at (fault_at (layer_net size n rows) why t) o
+      → Ok tt ≡ (known (layer_net size n rows) t else_by refuse_at (fault_at (layer_net size n rows) why t) o)
       → (Ok tt ≡ (known n t else_by refuse_at (fault_at n why t) p)) × (true ≡ c → (r : ℕ) → r < size → own r ≡ false)
-  accepted why own c o p is there ok =
-      let none = none_or p (rows_place c own) (sym is ∙ refuse_at_ok (fault_at (layer_net size n rows) why t) o (sym ok)) in (
-        passed n why t p (cond_both (is_shut size n) n (open_net size n rows) (λ (m : Net). t < m.moves → t < n.moves) (λ e l. l) (λ e l. l) (known_in (layer_net size n rows) t there)) none.0,
+  accepted why own c o p is ok =
+      let both = else_ok (known (layer_net size n rows) t) (refuse_at (fault_at (layer_net size n rows) why t) o) (sym ok) in
+      let none = none_or p (rows_place c own) (sym is ∙ refuse_at_ok (fault_at (layer_net size n rows) why t) o both.1) in (
+        passed n why t p (cond_both (is_shut size n) n (open_net size n rows) (λ (m : Net). t < m.moves → t < n.moves) (λ e l. l) (λ e l. l) (known_in (layer_net size n rows) t (sym both.0))) none.0,
         λ e. lowest_none own size (unmapped (λ (r : ℕ). n.places + r) (lowest own 0 size) (ap (λ (b : Bool). rows_place b own) e ∙ none.1)),
       )
 
@@ -119,22 +120,21 @@ module _ (size : ℕ) (n : Net) (free : ℕ → ℕ) (rows : ℕ → Row) (t : �
   abbrev gives : Bool
   gives = not (is_shut size n) && ltb t n.moves
 
-  module _ (o : Option ℕ) (there : Ok tt ≡ known (layer_net size n rows) t) where
-    pub begins : o ≡ short_place (layer_net size n rows) (layer_free size n free rows) t → Ok tt ≡ refuse_at (fault_at (layer_net size n rows) Short t) o
-        → (Ok tt ≡ begin_answer n free t) × (true ≡ takes → (r : ℕ) → r < size → (rows r).take t ≤ (rows r).free)
-    begins found ok =
-        let a = accepted Short (λ r. ltb (rows r).free ((rows r).take t)) takes o (short_place n free t) (found ∙ short_is) there ok in
-        (a.0, λ e r l. ltb-false (rows r).free ((rows r).take t) (a.1 e r l))
+  pub begins : Ok tt ≡ begin_answer (layer_net size n rows) (layer_free size n free rows) t
+      → (Ok tt ≡ begin_answer n free t) × (true ≡ takes → (r : ℕ) → r < size → (rows r).take t ≤ (rows r).free)
+  begins ok =
+      let a = accepted Short (λ r. ltb (rows r).free ((rows r).take t)) takes _ (short_place n free t) short_is ok in
+      (a.0, λ e r l. ltb-false (rows r).free ((rows r).take t) (a.1 e r l))
 
-    module _ (low : (r : ℕ) → (rows r).free ≤ control_limit) (ok : Ok tt ≡ refuse_at (fault_at (layer_net size n rows) OverLimit t) o) where
-      pub finishes : o ≡ over_place (layer_net size n rows) (layer_free size n free rows) (λ p. (layer_net size n rows).give p t)
-          → (Ok tt ≡ finish_answer n free t) × (true ≡ gives → (r : ℕ) → r < size → (rows r).free + (rows r).give t ≤ control_limit)
-      finishes found =
-          let a = accepted OverLimit (λ r. ltb control_limit ((rows r).free + (rows r).give t)) gives o (over_place n free (λ p. n.give p t)) (found ∙ over_give_is low) there ok in
-          (a.0, λ e r l. ltb-false control_limit ((rows r).free + (rows r).give t) (a.1 e r l))
+  module _ (low : (r : ℕ) → (rows r).free ≤ control_limit) where
+    pub finishes : Ok tt ≡ finish_answer (layer_net size n rows) (layer_free size n free rows) t
+        → (Ok tt ≡ finish_answer n free t) × (true ≡ gives → (r : ℕ) → r < size → (rows r).free + (rows r).give t ≤ control_limit)
+    finishes ok =
+        let a = accepted OverLimit (λ r. ltb control_limit ((rows r).free + (rows r).give t)) gives _ (over_place n free (λ p. n.give p t)) (over_give_is low) ok in
+        (a.0, λ e r l. ltb-false control_limit ((rows r).free + (rows r).give t) (a.1 e r l))
 
-      pub goes_back : o ≡ over_place (layer_net size n rows) (layer_free size n free rows) (λ p. (layer_net size n rows).take p t)
-          → (Ok tt ≡ back_answer n free t) × (true ≡ takes → (r : ℕ) → r < size → (rows r).free + (rows r).take t ≤ control_limit)
-      goes_back found =
-          let a = accepted OverLimit (λ r. ltb control_limit ((rows r).free + (rows r).take t)) takes o (over_place n free (λ p. n.take p t)) (found ∙ over_take_is low) there ok in
-          (a.0, λ e r l. ltb-false control_limit ((rows r).free + (rows r).take t) (a.1 e r l))
+    pub goes_back : Ok tt ≡ back_answer (layer_net size n rows) (layer_free size n free rows) t
+        → (Ok tt ≡ back_answer n free t) × (true ≡ takes → (r : ℕ) → r < size → (rows r).free + (rows r).take t ≤ control_limit)
+    goes_back ok =
+        let a = accepted OverLimit (λ r. ltb control_limit ((rows r).free + (rows r).take t)) takes _ (over_place n free (λ p. n.take p t)) (over_take_is low) ok in
+        (a.0, λ e r l. ltb-false control_limit ((rows r).free + (rows r).take t) (a.1 e r l))

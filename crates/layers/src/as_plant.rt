@@ -10,7 +10,6 @@ ghost use Rattle.std.proofs.Common.{rules};
 use crate::layer::Layer;
 use crate::rows::Rows;
 use model::fault::Fault;
-use model::refusal::Refusal;
 use plant::net::Net;
 use plant::plant::Plant;
 
@@ -66,8 +65,7 @@ impl<P: Plant, R: Rows> Plant for Layer<P, R> {
         ensures whole { ⟦<Self as Plant>⟧.pile self.new ≡ (if accepted result then pile_begun (⟦<Self as Plant>⟧.pile self.old) t else ⟦<Self as Plant>⟧.pile self.old) }
         ensures shut { is_shut (row_count R.Rows.top) (P.Net.net self.old.below) ≡ true → R.Rows.rows self.new.rows ≡ R.Rows.rows self.old.rows }
     {
-        self.known(t)?;
-        self.refuse_at(Refusal::Short, t, self.short_place(t))?;
+        self.may_begin(t)?;
         self.below.begin(t)?;
         if self.rows_take(t) {
             self.rows.begin(t);
@@ -82,8 +80,7 @@ impl<P: Plant, R: Rows> Plant for Layer<P, R> {
         ensures whole { ⟦<Self as Plant>⟧.pile self.new ≡ (if accepted result then pile_finished (⟦<Self as Plant>⟧.pile self.old) t else ⟦<Self as Plant>⟧.pile self.old) }
         ensures shut { is_shut (row_count R.Rows.top) (P.Net.net self.old.below) ≡ true → R.Rows.rows self.new.rows ≡ R.Rows.rows self.old.rows }
     {
-        self.known(t)?;
-        self.refuse_at(Refusal::OverLimit, t, self.over_by_give(t))?;
+        self.may_finish(t)?;
         self.below.finish(t)?;
         if self.rows_give(t) {
             self.rows.finish(t);
@@ -98,8 +95,7 @@ impl<P: Plant, R: Rows> Plant for Layer<P, R> {
         ensures whole { ⟦<Self as Plant>⟧.pile self.new ≡ (if accepted result then pile_gone_back (⟦<Self as Plant>⟧.pile self.old) t else ⟦<Self as Plant>⟧.pile self.old) }
         ensures shut { is_shut (row_count R.Rows.top) (P.Net.net self.old.below) ≡ true → R.Rows.rows self.new.rows ≡ R.Rows.rows self.old.rows }
     {
-        self.known(t)?;
-        self.refuse_at(Refusal::OverLimit, t, self.over_by_take(t))?;
+        self.may_back(t)?;
         self.below.back(t)?;
         if self.rows_take(t) {
             self.rows.back(t);

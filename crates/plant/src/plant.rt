@@ -50,7 +50,7 @@ pub trait Plant: Net {
     }
 
     // What `begin` would answer now.
-    final fn may_begin(&self, t: usize) -> Result<(), Fault>
+    fn may_begin(&self, t: usize) -> Result<(), Fault>
         ensures { result ≡ begin_answer (Self.Net.net self.now) (tokens self.now) t }
     {
         self.known(t)?;
@@ -58,7 +58,7 @@ pub trait Plant: Net {
     }
 
     // What `finish` would answer now.
-    final fn may_finish(&self, t: usize) -> Result<(), Fault>
+    fn may_finish(&self, t: usize) -> Result<(), Fault>
         ensures { result ≡ finish_answer (Self.Net.net self.now) (tokens self.now) t }
     {
         self.known(t)?;
@@ -66,7 +66,7 @@ pub trait Plant: Net {
     }
 
     // What `back` would answer now.
-    final fn may_back(&self, t: usize) -> Result<(), Fault>
+    fn may_back(&self, t: usize) -> Result<(), Fault>
         ensures { result ≡ back_answer (Self.Net.net self.now) (tokens self.now) t }
     {
         self.known(t)?;

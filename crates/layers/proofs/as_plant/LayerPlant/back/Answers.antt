@@ -9,10 +9,10 @@ use Rattle.layers.proofs.as_plant.LayerPlant.back.Goals as goal
 pub returns-in_err-back : goal.returns-in_err-back
 returns-in_err-back g c =
     let s = c.args.self.now in
-    absurd (err_not_ok _ (c.in_err-back.ensures.answer ∙ sym (goes_back (row_count g.R.Rows.top) (g.P.Net.net s.below) (g.P.Plant.tokens s.below) (g.R.Rows.rows s.rows) c.args.t _ c.in_ok-known.ensures (λ r. (g.met.R.Rows.kept s.rows r).low) c.in_ok-refuse_at.ensures c.over_by_take.ensures).0))
+    absurd (err_not_ok _ (c.in_err-back.ensures.answer ∙ sym (goes_back (row_count g.R.Rows.top) (g.P.Net.net s.below) (g.P.Plant.tokens s.below) (g.R.Rows.rows s.rows) c.args.t (λ r. (g.met.R.Rows.kept s.rows r).low) c.in_ok-may_back.ensures).0))
 
 pub back-requires-then-rows_take : goal.back-requires-then-rows_take
 back-requires-then-rows_take g c =
     let s = c.args.self.now in
     let counts = c.if-rows_take.ensures ∙ ap (λ (m : Net). not (is_shut (row_count g.R.Rows.top) m) && m.controllable c.args.t) c.back.ensures.same in
-    (goes_back (row_count g.R.Rows.top) (g.P.Net.net s.below) (g.P.Plant.tokens s.below) (g.R.Rows.rows s.rows) c.args.t _ c.in_ok-known.ensures (λ r. (g.met.R.Rows.kept s.rows r).low) c.in_ok-refuse_at.ensures c.over_by_take.ensures).1 counts
+    (goes_back (row_count g.R.Rows.top) (g.P.Net.net s.below) (g.P.Plant.tokens s.below) (g.R.Rows.rows s.rows) c.args.t (λ r. (g.met.R.Rows.kept s.rows r).low) c.in_ok-may_back.ensures).1 counts

@@ -9,10 +9,10 @@ use Rattle.layers.proofs.as_plant.LayerPlant.begin.Goals as goal
 pub returns-in_err-begin : goal.returns-in_err-begin
 returns-in_err-begin g c =
     let s = c.args.self.now in
-    absurd (err_not_ok _ (c.in_err-begin.ensures.answer ∙ sym (begins (row_count g.R.Rows.top) (g.P.Net.net s.below) (g.P.Plant.tokens s.below) (g.R.Rows.rows s.rows) c.args.t _ c.in_ok-known.ensures c.short_place.ensures c.in_ok-refuse_at.ensures).0))
+    absurd (err_not_ok _ (c.in_err-begin.ensures.answer ∙ sym (begins (row_count g.R.Rows.top) (g.P.Net.net s.below) (g.P.Plant.tokens s.below) (g.R.Rows.rows s.rows) c.args.t c.in_ok-may_begin.ensures).0))
 
 pub begin-requires-then-rows_take : goal.begin-requires-then-rows_take
 begin-requires-then-rows_take g c =
     let s = c.args.self.now in
     let counts = c.if-rows_take.ensures ∙ ap (λ (m : Net). not (is_shut (row_count g.R.Rows.top) m) && m.controllable c.args.t) c.begin.ensures.same in
-    (begins (row_count g.R.Rows.top) (g.P.Net.net s.below) (g.P.Plant.tokens s.below) (g.R.Rows.rows s.rows) c.args.t _ c.in_ok-known.ensures c.short_place.ensures c.in_ok-refuse_at.ensures).1 counts
+    (begins (row_count g.R.Rows.top) (g.P.Net.net s.below) (g.P.Plant.tokens s.below) (g.R.Rows.rows s.rows) c.args.t c.in_ok-may_begin.ensures).1 counts

@@ -9,10 +9,10 @@ use Rattle.layers.proofs.as_plant.LayerPlant.finish.Goals as goal
 pub returns-in_err-finish : goal.returns-in_err-finish
 returns-in_err-finish g c =
     let s = c.args.self.now in
-    absurd (err_not_ok _ (c.in_err-finish.ensures.answer ∙ sym (finishes (row_count g.R.Rows.top) (g.P.Net.net s.below) (g.P.Plant.tokens s.below) (g.R.Rows.rows s.rows) c.args.t _ c.in_ok-known.ensures (λ r. (g.met.R.Rows.kept s.rows r).low) c.in_ok-refuse_at.ensures c.over_by_give.ensures).0))
+    absurd (err_not_ok _ (c.in_err-finish.ensures.answer ∙ sym (finishes (row_count g.R.Rows.top) (g.P.Net.net s.below) (g.P.Plant.tokens s.below) (g.R.Rows.rows s.rows) c.args.t (λ r. (g.met.R.Rows.kept s.rows r).low) c.in_ok-may_finish.ensures).0))
 
 pub finish-requires-then-rows_give : goal.finish-requires-then-rows_give
 finish-requires-then-rows_give g c =
     let s = c.args.self.now in
     let counts = c.if-rows_give.ensures ∙ ap (λ (m : Net). not (is_shut (row_count g.R.Rows.top) m) && ltb c.args.t m.moves) c.finish.ensures.same in
-    (finishes (row_count g.R.Rows.top) (g.P.Net.net s.below) (g.P.Plant.tokens s.below) (g.R.Rows.rows s.rows) c.args.t _ c.in_ok-known.ensures (λ r. (g.met.R.Rows.kept s.rows r).low) c.in_ok-refuse_at.ensures c.over_by_give.ensures).1 counts
+    (finishes (row_count g.R.Rows.top) (g.P.Net.net s.below) (g.P.Plant.tokens s.below) (g.R.Rows.rows s.rows) c.args.t (λ r. (g.met.R.Rows.kept s.rows r).low) c.in_ok-may_finish.ensures).1 counts
