@@ -1,10 +1,9 @@
-use Rattle.std.proofs.Common.{◌≡◌, ℕ, ◌+◌, ◌<◌, ◌≤◌, get_or, sym, rules, arith}
-use Rattle.std.proofs.iter.Serving.{serving}
+use Rattle.std.proofs.Common.{◌≡◌, ℕ, ◌+◌, ◌<◌, get_or, sym, rules}
 use Rattle.model.specs.Plant.{back_answer}
-use Rattle.model.specs.Sizes.{most_places, most_moves, most_limit}
+use Rattle.model.specs.Sizes.{most_places}
 use Rattle.plant.proofs.Made.{made_at}
 use Rattle.table.specs.Tables.{net_of, tokens_of}
-use Rattle.table.proofs.Firing.{after, still_held, have, took, back_move, gone_back_same, gone_back_none, gone_back_low, gone_back_spare}
+use Rattle.table.proofs.Firing.{after, still_held, have, took, gone_back_same, gone_back_none, gone_back_low, gone_back_spare}
 use Rattle.table.proofs.table.Table.returned.Goals as goal
 use Rattle.table.proofs.table.Table.returned.Goals.{After-from_fn}
 
@@ -12,13 +11,6 @@ made : (c : After-from_fn) (p : ℕ) → p < most_places → get_or c.from_fn.re
 made c p l =
     made_at _ c.from_fn.result most_places (λ q y. y ≡ have c.args.self.now c.args.t q + took c.args.self.now c.args.t q)
     (λ q y f h k. search rules) c.from_fn.ensures.items p 0 l
-
-pub from_fn-requires : goal.from_fn-requires
-from_fn-requires c =
-    let s = c.args.self.now in
-    let in' : c.args.t < most_moves = omega (arith, back_move s c.args.t (sym c.requires), s.few_moves) in
-    let few : (p : ℕ) → have s c.args.t p ≤ most_limit = λ p. omega (arith, s.held p, s.small_limits p) in
-    grind serving
 
 pub returns-clause-after : goal.returns-clause-after
 returns-clause-after c =
