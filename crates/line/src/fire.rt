@@ -99,7 +99,7 @@ impl Plant for Line {
         self.is_full(p).then_some(p)
     }
 
-    // Kept: one function of this and `back` would take `|n| n - 1` or `|n| n + 1`, and the first may be called only at some tokens.
+    // Kept: one function of this and `back` would take `Slot::lower` or `Slot::raise`, each with a `requires` of its own.
     fn begin(&mut self, t: usize) -> Result<(), Fault> {
         self.may_begin(t)?;
         if let Some(p) = t.checked_sub(1) {

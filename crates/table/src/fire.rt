@@ -111,8 +111,7 @@ impl Plant for Table {
         self.tokens[..self.places].get(p).copied().unwrap_or(0)
     }
 
-    // Kept: with one `fire(&mut self, may: Result<(), Fault>, tokens: [u32; MOST_PLACES])` for the three, as in
-    // `self.fire(self.may_begin(t), self.taken(t))`, the tokens would be asked for before it is known that the move may begin.
+    // Kept: a shared `self.fire(self.may_begin(t), self.taken(t))` would ask `taken` of a move that may not begin.
     fn begin(&mut self, t: usize) -> Result<(), Fault> {
         self.may_begin(t)?;
         self.tokens = self.taken(t);
