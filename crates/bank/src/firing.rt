@@ -71,7 +71,7 @@ impl Plant for Bank {
         (t < self.count && has_bit(self.tokens, t)).then_some(t)
     }
 
-    // Kept: one `self.fire(self.may_begin(t), self.taken(t))` for the three would ask for the tokens of a move that may not begin.
+    // Kept: a shared `self.fire(self.may_begin(t), self.taken(t))` would ask `taken` of a move that may not begin.
     fn begin(&mut self, t: usize) -> Result<(), Fault> {
         self.may_begin(t)?;
         self.tokens = self.taken(t);

@@ -87,16 +87,16 @@ module _ (s : Line) (t : ℕ) where
       let b : (t < k + 1) × ((q : ℕ) → q < k → held q + net.give q t ≤ net.limit q) = fits net held (λ q. net.give q t) t e in
       grind (arith, nat_tests, b.1 t l)
 
--- one place q has other tokens
-module _ (s : Line) (q x : ℕ) (in' : q < length s.slots) where
+-- one place q has other tokens: x of them, in the slot v
+module _ (s : Line) (q : ℕ) (v : Slot) (x : ℕ) (is : v ≡ record { limit = (slot s.slots q).limit; tokens = x }) (in' : q < length s.slots) where
   abbrev pub changed : List Slot
-  changed = slice_set s.slots q (record { limit = (slot s.slots q).limit; tokens = x })
+  changed = slice_set s.slots q v
 
   pub slot_changed : (p : ℕ) → slot changed p ≡ cond (eqb p q) (record { limit = (slot s.slots q).limit; tokens = x }) (slot s.slots p)
   slot_changed p =
       ⊎_elim
-      (λ e. rw e (get_or-set_same s.slots q _ none in') ∙ sym (cond-true (eqb p q) _ _ (eq-eqb p q e)))
-      (λ ne. get_or-set_other s.slots q p _ none ne ∙ sym (cond-false (eqb p q) _ _ (ne_eqb p q ne)))
+      (λ e. rw e (get_or-set_same s.slots q v none in') ∙ is ∙ sym (cond-true (eqb p q) _ _ (eq-eqb p q e)))
+      (λ ne. get_or-set_other s.slots q p v none ne ∙ sym (cond-false (eqb p q) _ _ (ne_eqb p q ne)))
       (cases_eq p q)
 
   pub limit_changed : (p : ℕ) → (slot changed p).limit ≡ (slot s.slots p).limit
@@ -137,21 +137,21 @@ module _ (s : Line) (q x : ℕ) (in' : q < length s.slots) where
 
 module _ (s : Line) (t : ℕ) where
   -- the tokens after an accepted call, where the place q is the one that it changes
-  pub begun_is : (e : Ok tt ≡ begin_answer (net_of s) (tokens_of s) t) (q : ℕ) → q + 1 ≡ t → (in' : q < length s.slots)
-      → (λ p. cond (ltb p s.count) (slot (changed s q ((slot s.slots q).tokens - 1) in') p).tokens 0) ≡ begun (net_of s) (tokens_of s) t
-  begun_is e q at in' =
-      moved s q _ in' (begun (net_of s) (tokens_of s) t) (begin_ok s t e q at).0
+  pub begun_is : (e : Ok tt ≡ begin_answer (net_of s) (tokens_of s) t) (q : ℕ) → q + 1 ≡ t → (v : Slot) (is : v ≡ record { limit = (slot s.slots q).limit; tokens = (slot s.slots q).tokens - 1 }) (in' : q < length s.slots)
+      → (λ p. cond (ltb p s.count) (slot (changed s q v ((slot s.slots q).tokens - 1) is in') p).tokens 0) ≡ begun (net_of s) (tokens_of s) t
+  begun_is e q at v is in' =
+      moved s q v _ is in' (begun (net_of s) (tokens_of s) t) (begin_ok s t e q at).0
       (rw (← e) (let l : q < s.count = (begin_ok s t e q at).0 in grind (arith, nat_tests)))
       (λ p ne. rw (← e) (grind (arith, nat_tests)))
 
-  pub gone_back_is : (e : Ok tt ≡ back_answer (net_of s) (tokens_of s) t) (q : ℕ) → q + 1 ≡ t → (in' : q < length s.slots)
-      → (λ p. cond (ltb p s.count) (slot (changed s q ((slot s.slots q).tokens + 1) in') p).tokens 0) ≡ gone_back (net_of s) (tokens_of s) t
-  gone_back_is e q at in' =
-      moved s q _ in' (gone_back (net_of s) (tokens_of s) t) (back_ok s t e q at).0
+  pub gone_back_is : (e : Ok tt ≡ back_answer (net_of s) (tokens_of s) t) (q : ℕ) → q + 1 ≡ t → (v : Slot) (is : v ≡ record { limit = (slot s.slots q).limit; tokens = (slot s.slots q).tokens + 1 }) (in' : q < length s.slots)
+      → (λ p. cond (ltb p s.count) (slot (changed s q v ((slot s.slots q).tokens + 1) is in') p).tokens 0) ≡ gone_back (net_of s) (tokens_of s) t
+  gone_back_is e q at v is in' =
+      moved s q v _ is in' (gone_back (net_of s) (tokens_of s) t) (back_ok s t e q at).0
       (rw (← e) (let l : q < s.count = (back_ok s t e q at).0 in grind (arith, nat_tests)))
       (λ p ne. rw (← e) (grind (arith, nat_tests)))
 
-  pub finished_is : (e : Ok tt ≡ finish_answer (net_of s) (tokens_of s) t) → t < s.count → (in' : t < length s.slots)
-      → (λ p. cond (ltb p s.count) (slot (changed s t ((slot s.slots t).tokens + 1) in') p).tokens 0) ≡ finished (net_of s) (tokens_of s) t
-  finished_is e l in' =
-      moved s t _ in' (finished (net_of s) (tokens_of s) t) l (rw (← e) (grind (arith, nat_tests))) (λ p ne. rw (← e) (grind (arith, nat_tests)))
+  pub finished_is : (e : Ok tt ≡ finish_answer (net_of s) (tokens_of s) t) → t < s.count → (v : Slot) (is : v ≡ record { limit = (slot s.slots t).limit; tokens = (slot s.slots t).tokens + 1 }) (in' : t < length s.slots)
+      → (λ p. cond (ltb p s.count) (slot (changed s t v ((slot s.slots t).tokens + 1) is in') p).tokens 0) ≡ finished (net_of s) (tokens_of s) t
+  finished_is e l v is in' =
+      moved s t v _ is in' (finished (net_of s) (tokens_of s) t) l (rw (← e) (grind (arith, nat_tests))) (λ p ne. rw (← e) (grind (arith, nat_tests)))

@@ -99,11 +99,11 @@ impl Plant for Line {
         self.is_full(p).then_some(p)
     }
 
-    // Kept: one function of this and `back` would take `|n| n - 1` or `|n| n + 1`, and the first may be called only at some tokens.
+    // Kept: one function of this and `back` would take `Slot::lower` or `Slot::raise`, each with a `requires` of its own.
     fn begin(&mut self, t: usize) -> Result<(), Fault> {
         self.may_begin(t)?;
         if let Some(p) = t.checked_sub(1) {
-            self.slots[p].tokens -= 1;
+            self.slots[p].lower();
         }
         Ok(())
     }
@@ -111,7 +111,7 @@ impl Plant for Line {
     fn finish(&mut self, t: usize) -> Result<(), Fault> {
         self.may_finish(t)?;
         if t < self.count {
-            self.slots[t].tokens += 1;
+            self.slots[t].raise();
         }
         Ok(())
     }
@@ -119,7 +119,7 @@ impl Plant for Line {
     fn back(&mut self, t: usize) -> Result<(), Fault> {
         self.may_back(t)?;
         if let Some(p) = t.checked_sub(1) {
-            self.slots[p].tokens += 1;
+            self.slots[p].raise();
         }
         Ok(())
     }

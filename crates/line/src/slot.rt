@@ -1,5 +1,5 @@
 // One place of the line.
-ghost use Rattle.std.specs.Prelude.{◌≡◌};
+ghost use Rattle.std.specs.Prelude.{◌≡◌, ◌+◌, ◌-◌, ◌<◌, ◌≤◌};
 
 use net_text::net::Place;
 
@@ -24,5 +24,20 @@ impl Slot {
             limit: place.limit,
             tokens: place.tokens,
         }
+    }
+    // Takes one token.
+    pub(crate) fn lower(&mut self)
+        requires { 1 ≤ self.old.tokens }
+        ensures { self.new ≡ record { limit = self.old.limit; tokens = self.old.tokens - 1 } }
+    {
+        self.tokens -= 1;
+    }
+
+    // Gives one token.
+    pub(crate) fn raise(&mut self)
+        requires { self.old.tokens < self.old.limit }
+        ensures { self.new ≡ record { limit = self.old.limit; tokens = self.old.tokens + 1 } }
+    {
+        self.tokens += 1;
     }
 }

@@ -1,6 +1,6 @@
 // What a move takes from a place when it begins, and gives to it when it finishes.
-ghost use Rattle.std.specs.Prelude.{◌≡◌, ◌≤◌};
-ghost use Rattle.model.specs.Sizes.{most_arc};
+ghost use Rattle.std.specs.Prelude.{◌≡◌, ◌+◌, ◌-◌, ◌≤◌};
+ghost use Rattle.model.specs.Sizes.{most_arc, most_limit};
 
 use net_text::net::Arc;
 
@@ -23,5 +23,28 @@ impl Cell {
             take: arc.take as u8,
             give: arc.give as u8,
         }
+    }
+    // So many tokens less what is taken.
+    pub(crate) fn taken(self, tokens: u32) -> u32
+        requires { self.take ≤ tokens }
+        ensures { result ≡ tokens - self.take }
+    {
+        tokens - u32::from(self.take)
+    }
+
+    // So many tokens and what is given.
+    pub(crate) fn given(self, tokens: u32) -> u32
+        requires { tokens ≤ most_limit }
+        ensures { result ≡ tokens + self.give }
+    {
+        tokens + u32::from(self.give)
+    }
+
+    // So many tokens and what was taken.
+    pub(crate) fn returned(self, tokens: u32) -> u32
+        requires { tokens ≤ most_limit }
+        ensures { result ≡ tokens + self.take }
+    {
+        tokens + u32::from(self.take)
     }
 }

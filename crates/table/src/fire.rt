@@ -1,13 +1,15 @@
 // The table as a net and as a plant.
-ghost use Rattle.std.specs.Prelude.{◌≡◌, ℕ, ◌≤◌, if◌then◌else◌, ◌&&◌, nat_lt};
+ghost use Rattle.std.specs.Prelude.{◌≡◌, ℕ, ◌≤◌, if◌then◌else◌, ◌&&◌, nat_lt, Ok, slice_index, slice_index_or};
+ghost use Rattle.model.specs.Plant.{begin_answer, finish_answer, back_answer, begun, finished, gone_back};
 ghost use Rattle.model.specs.Layer.{plant_alone};
 ghost use Rattle.table.specs.Cells.{none, cell};
-ghost use Rattle.table.specs.Tables.{net_of, tokens_of};
+ghost use Rattle.table.specs.Tables.{net_of, tokens_in, tokens_of};
 ghost use Rattle.std.proofs.Common.{rules, arith};
 
 use crate::cell::Cell;
 use crate::table::Table;
 use model::fault::Fault;
+use model::sizes::MOST_PLACES;
 use plant::net::Net;
 use plant::plant::Plant;
 use std::array;
@@ -22,6 +24,33 @@ impl Table {
         } else {
             Cell::NONE
         }
+    }
+
+    // The tokens once the move `t` has begun.
+    fn taken(&self, t: usize) -> [u32; MOST_PLACES]
+        requires { begin_answer (net_of self.now) (tokens_of self.now) t ≡ Ok tt }
+        ensures after { tokens_in self.now.places result ≡ begun (net_of self.now) (tokens_of self.now) t }
+        ensures held { (p : ℕ) → slice_index result p ≤ slice_index_or self.now.limits p 1 }
+    {
+        array::from_fn(|p| self.arcs[t][p].taken(self.tokens[p]))
+    }
+
+    // The tokens once the move `t` has finished.
+    fn given(&self, t: usize) -> [u32; MOST_PLACES]
+        requires { finish_answer (net_of self.now) (tokens_of self.now) t ≡ Ok tt }
+        ensures after { tokens_in self.now.places result ≡ finished (net_of self.now) (tokens_of self.now) t }
+        ensures held { (p : ℕ) → slice_index result p ≤ slice_index_or self.now.limits p 1 }
+    {
+        array::from_fn(|p| self.arcs[t][p].given(self.tokens[p]))
+    }
+
+    // The tokens once the move `t` has gone back.
+    fn returned(&self, t: usize) -> [u32; MOST_PLACES]
+        requires { back_answer (net_of self.now) (tokens_of self.now) t ≡ Ok tt }
+        ensures after { tokens_in self.now.places result ≡ gone_back (net_of self.now) (tokens_of self.now) t }
+        ensures held { (p : ℕ) → slice_index result p ≤ slice_index_or self.now.limits p 1 }
+    {
+        array::from_fn(|p| self.arcs[t][p].returned(self.tokens[p]))
     }
 }
 
@@ -82,23 +111,22 @@ impl Plant for Table {
         self.tokens[..self.places].get(p).copied().unwrap_or(0)
     }
 
+    // Kept: a shared `self.fire(self.may_begin(t), self.taken(t))` would ask `taken` of a move that may not begin.
     fn begin(&mut self, t: usize) -> Result<(), Fault> {
         self.may_begin(t)?;
-        self.tokens = array::from_fn(|p| self.tokens[p] - u32::from(self.arcs[t][p].take));
+        self.tokens = self.taken(t);
         Ok(())
     }
 
-    // Kept: one `fn add(&mut self, t: usize, amount: impl Fn(Cell) -> u8)` for this and `back` would need clauses of what `amount`
-    // gives at each place, which are longer than both.
     fn finish(&mut self, t: usize) -> Result<(), Fault> {
         self.may_finish(t)?;
-        self.tokens = array::from_fn(|p| self.tokens[p] + u32::from(self.arcs[t][p].give));
+        self.tokens = self.given(t);
         Ok(())
     }
 
     fn back(&mut self, t: usize) -> Result<(), Fault> {
         self.may_back(t)?;
-        self.tokens = array::from_fn(|p| self.tokens[p] + u32::from(self.arcs[t][p].take));
+        self.tokens = self.returned(t);
         Ok(())
     }
 }

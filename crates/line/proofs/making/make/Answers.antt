@@ -33,12 +33,6 @@ module _ (c : After-front-2) where
       (c.front-2.ensures (λ x. x.controllable) (λ x u k. search (rules, tests))) t
       ∙ mapped (λ (x : Move). x.controllable) (vec_items c.args.net.now.moves) no_move t
 
-pub invariant_of-result-clause-some : goal.invariant_of-result-clause-some
-invariant_of-result-clause-some c = omega (arith, counted c, c.if-not-is_line.ensures.some)
-
-pub invariant_of-result-clause-few : goal.invariant_of-result-clause-few
-invariant_of-result-clause-few c = omega (arith, counted c, c.if-not-is_line.ensures.moves, c.if-not-is_line.ensures.few)
-
 pub invariant_of-result-clause-some_limits : goal.invariant_of-result-clause-some_limits
 invariant_of-result-clause-some_limits c = λ p h. some_made (vec_items c.args.net.now.places) c.front.result c.if-not-is_line.ensures.slots (slots c) p (omega (arith, counted c))
 

@@ -52,18 +52,6 @@ module _ (c : After-front-3) where
       ap (λ (x : Cell). x.give) (c.cells_of.ensures.cells p t) ∙ given c.deref-2.result.now p t
       ∙ (λ i. arc_amount (λ a. a.give) (c.deref-2.ensures.value i) p t)
 
-pub invariant_of-result-clause-some_places : goal.invariant_of-result-clause-some_places
-invariant_of-result-clause-some_places c = omega (arith, c.len.ensures, (fits c).some_places)
-
-pub invariant_of-result-clause-few_places : goal.invariant_of-result-clause-few_places
-invariant_of-result-clause-few_places c = omega (arith, c.len.ensures, (fits c).few_places)
-
-pub invariant_of-result-clause-some_moves : goal.invariant_of-result-clause-some_moves
-invariant_of-result-clause-some_moves c = omega (arith, c.len-2.ensures, (fits c).some_moves)
-
-pub invariant_of-result-clause-few_moves : goal.invariant_of-result-clause-few_moves
-invariant_of-result-clause-few_moves c = omega (arith, c.len-2.ensures, (fits c).few_moves)
-
 pub invariant_of-result-clause-spare : goal.invariant_of-result-clause-spare
 invariant_of-result-clause-spare c = λ p t h.
     c.cells_of.ensures.cells p t

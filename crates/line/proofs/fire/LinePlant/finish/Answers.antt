@@ -1,24 +1,25 @@
-use Rattle.std.proofs.Common.{◌+◌, ◌<◌, length, arith}
+use Rattle.std.proofs.Common.{arith}
 use Rattle.plant.proofs.Alone.{alone_finished}
 use Rattle.line.specs.Lines.{net_of, tokens_of}
-use Rattle.line.specs.Slots.{slot}
 use Rattle.line.proofs.Firing.{finish_ok, finished_is, some_changed, small_changed, held_changed, same_net}
 use Rattle.line.proofs.fire.LinePlant.finish.Goals as goal
 
+pub raise-requires : goal.raise-requires
+raise-requires c = let s = c.args.self.now in omega (arith, finish_ok s c.args.t c.in_ok-may_finish.ensures c.if-t-self.true)
+
 pub invariant_of-self-clause-some_limits : goal.invariant_of-self-clause-some_limits
-invariant_of-self-clause-some_limits c = let s = c.args.self.now in some_changed s c.args.t ((slot s.slots c.args.t).tokens + 1) (omega arith)
+invariant_of-self-clause-some_limits c = let s = c.args.self.now in some_changed s c.args.t c.raise.new.self _ c.raise.ensures (omega arith)
 
 pub invariant_of-self-clause-small_limits : goal.invariant_of-self-clause-small_limits
-invariant_of-self-clause-small_limits c = let s = c.args.self.now in small_changed s c.args.t ((slot s.slots c.args.t).tokens + 1) (omega arith)
+invariant_of-self-clause-small_limits c = let s = c.args.self.now in small_changed s c.args.t c.raise.new.self _ c.raise.ensures (omega arith)
 
 pub invariant_of-self-clause-held : goal.invariant_of-self-clause-held
-invariant_of-self-clause-held c = let s = c.args.self.now in held_changed s c.args.t ((slot s.slots c.args.t).tokens + 1) (omega arith) (finish_ok c.args.self.now c.args.t c.in_ok-may_finish.ensures c.if-t-self.true)
+invariant_of-self-clause-held c = let s = c.args.self.now in held_changed s c.args.t c.raise.new.self _ c.raise.ensures (omega arith) (finish_ok s c.args.t c.in_ok-may_finish.ensures c.if-t-self.true)
 
 pub returns-then-t-self : goal.returns-then-t-self
 returns-then-t-self c =
     let s = c.args.self.now in
     let e = c.in_ok-may_finish.ensures in
-    let in' : c.args.t < length s.slots = omega arith in
-    let same = same_net s c.args.t ((slot s.slots c.args.t).tokens + 1) in' in
-    let after = finished_is s c.args.t e c.if-t-self.true in' in
+    let same = same_net s c.args.t c.raise.new.self _ c.raise.ensures (omega arith) in
+    let after = finished_is s c.args.t e c.if-t-self.true c.raise.new.self c.raise.ensures (omega arith) in
     record { answer = e; same = same; after = after; whole = alone_finished (net_of s) _ (tokens_of s) _ c.args.t _ same e after }
