@@ -31,6 +31,9 @@ bit_beyond w n q h l = let far : 2 ^ n ≤ 2 ^ q = pow_mono l in bit_past w q (o
 pub bit_most : (w q : ℕ) → bit w q ≤ 1
 bit_most w q = omega arith
 
+pub bit_zero_from : (w q : ℕ) → (bit w q ≢ 1) → bit w q ≡ 0
+bit_zero_from w q ne = omega (arith, bit_most w q)
+
 pow_same : (p : ℕ) → bit (2 ^ p) p ≡ 1
 pow_same p = ap (λ n. n % 2) (div_self (pow_pos p))
 
@@ -74,3 +77,9 @@ clear_bit k w p q lt fits =
 -- one bit more at the end of a word
 pub next_inside_word : (w p : ℕ) → w < 2 ^ p → w < 2 ^ (p + 1)
 next_inside_word w p h = let far : 2 ^ p ≤ 2 ^ (p + 1) = pow_mono (omega arith) in omega arith
+
+pub set_here : (w r p : ℕ) → ((q : ℕ) → bit r q ≡ cond (q == p) 1 (bit w q)) → bit r p ≡ 1
+set_here w r p bits = bits p ∙ cond-true (p == p) 1 (bit w p) (eq-eqb p p refl)
+
+pub set_below : (w r p : ℕ) → ((q : ℕ) → bit r q ≡ cond (q == p) 1 (bit w q)) → (q : ℕ) → q < p → bit r q ≡ bit w q
+set_below w r p bits q h = bits q ∙ cond-false (q == p) 1 (bit w q) (ne_eqb q p (λ e. omega arith))

@@ -93,6 +93,4 @@ pub trait Rows {
     ghost missing: { (s : Self) (r : ℕ) → row_count top ≤ r → rows s r ≡ blank };
 
     ghost kept: { (s : Self) (r : ℕ) → Kept (rows s r) };
-
-    ghost one_way: { (s : Self) (r t : ℕ) → 0 < (rows s r).take t → (rows s r).give t ≡ 0 };
 }

@@ -1,7 +1,7 @@
 // A table of so many rows, and what no value of it is without.
-ghost use Rattle.std.specs.Prelude.{◌≡◌, ℕ, length, slice_index_or};
-ghost use Rattle.layers.specs.Kept.{Kept, one_way, rows_past, top_some, top_few};
-ghost use Rattle.layers.specs.Rows.{nothing, rows_of, top_of};
+ghost use Rattle.std.specs.Prelude.{◌≡◌, ℕ, length};
+ghost use Rattle.layers.specs.Kept.{Kept, rows_past, top_some, top_few};
+ghost use Rattle.layers.specs.Rows.{rows_of, top_of};
 ghost use Rattle.model.specs.Layer.{blank, row_count};
 ghost use Rattle.std.proofs.Common.{arith};
 
@@ -41,8 +41,6 @@ impl<const N: usize> Rows for Table<N> {
     ghost missing = { λ s r l. rows_past s.rows r (omega (arith, s.all, s.sized)) };
 
     ghost kept = { λ s. s.kept };
-
-    ghost one_way = { λ s r. one_way (slice_index_or s.rows r nothing) };
 
     fn count(&self) -> usize {
         N
