@@ -19,6 +19,7 @@ fn bits<T, F: Fn(&T) -> bool>(items: &[T], test: F) -> u32
     ensures bits { (f : T → Bool) → ((x : T) (b : Bool) → FnReturnsAt F.Fn test x b → b ≡ f x) → (k : ℕ) → letter result k ≡ slice_index_or (map f items.now) k false }
 {
     let mut word = 0;
+    // Kept: the number of a bit is that of its item, and a `fold` would carry the same word, with the invariant as a clause of its closure.
     for (k, item) in items.iter().enumerate() {
         if test(item) {
             word = with_bit(word, k);

@@ -66,6 +66,8 @@ impl<const N: usize> Rows for Table<N> {
         self.rows[r].set_rule(raises, free);
     }
 
+    // Kept: three loops of one line. A shared `change(|row| row.free - row.take(t))` would need clauses on what the closure may be asked,
+    // since the difference is asked of some rows only, and on what it answers.
     fn begin(&mut self, t: usize) {
         'begun: for row in &mut self.rows {
             row.free -= row.take(t);

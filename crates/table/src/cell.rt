@@ -24,6 +24,7 @@ impl Cell {
             give: arc.give as u8,
         }
     }
+
     // So many tokens less what is taken.
     pub(crate) fn taken(self, tokens: u32) -> u32
         requires { self.take ≤ tokens }
