@@ -66,10 +66,7 @@ pub trait Net {
     final fn refuse_at(&self, refusal: Refusal, t: usize, found: Option<usize>) -> Result<(), Fault>
         ensures { result ≡ refuse_at (fault_at (net self.now) refusal t) found }
     {
-        match found {
-            Some(p) => Err(Fault::at(refusal, t, self.spot(p))),
-            None => Ok(()),
-        }
+        found.map_or(Ok(()), |p| Err(Fault::at(refusal, t, self.spot(p))))
     }
 
     ghost sound: { (s : Self) → Ranges (net s) };
