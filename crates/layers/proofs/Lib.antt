@@ -5,3 +5,4 @@ pub mod Raising
 pub mod Checking
 pub mod RowSet
 pub mod Stacking
+pub mod Numbering

@@ -11,7 +11,6 @@ use plant::net::Net;
 use plant::plant::Plant;
 
 // The ground places and the moves are those below; the control places of the rows come after all places below.
-// Kept: a `match` in each method, since `map_or_else` would take two closures, and one that asks the plant below needs clauses.
 impl<P: Plant, R: Rows> Net for Layer<P, R> {
     ghost net = { λ s. layer_net (row_count R.Rows.top) (P.Net.net s.below) (R.Rows.rows s.rows) };
 
@@ -41,6 +40,8 @@ impl<P: Plant, R: Rows> Net for Layer<P, R> {
         self.below.controllable(t)
     }
 
+    // Kept: a `match` here and in `give`, where the other form is `map_or_else(|| self.below.take(p, t), |r| if .. { .. } else { 0 })`:
+    // the guard becomes an `if` in a closure, and the three cases no longer stand one below the other.
     fn take(&self, p: usize, t: usize) -> u32 {
         match self.own_row(p) {
             Some(r) if self.below.controllable(t) => self.rows.take(r, t),
@@ -58,23 +59,16 @@ impl<P: Plant, R: Rows> Net for Layer<P, R> {
     }
 
     fn limit(&self, p: usize) -> u32 {
-        match self.own_row(p) {
-            Some(_) => CONTROL_LIMIT,
-            None => self.below.limit(p),
-        }
+        self.own_row(p)
+            .map_or_else(|| self.below.limit(p), |_| CONTROL_LIMIT)
     }
 
     fn layer(&self, p: usize) -> usize {
-        match self.own_row(p) {
-            Some(_) => self.next_layer(),
-            None => self.below.layer(p),
-        }
+        self.own_row(p)
+            .map_or_else(|| self.below.layer(p), |_| self.next_layer())
     }
 
     fn row(&self, p: usize) -> usize {
-        match self.own_row(p) {
-            Some(r) => r,
-            None => self.below.row(p),
-        }
+        self.own_row(p).unwrap_or_else(|| self.below.row(p))
     }
 }

@@ -23,10 +23,8 @@ impl<P: Plant, R: Rows> Plant for Layer<P, R> {
     ghost within = { Prim.search rules };
 
     fn free(&self, p: usize) -> u32 {
-        match self.own_row(p) {
-            Some(r) => self.rows.free(r),
-            None => self.below.free(p),
-        }
+        self.own_row(p)
+            .map_or_else(|| self.below.free(p), |r| self.rows.free(r))
     }
 
     // Kept: this search and the next two, a `match` each. One for all would take the search of the rows as a closure

@@ -32,15 +32,13 @@ impl<P: Plant, R: Rows> Layer<P, R> {
     }
 
     // The number of this layer: one above the highest below.
-    // Kept: a `for`, since a closure that asks the plant below needs clauses of its own under `fold`, longer than the loop.
     pub(crate) fn next_layer(&self) -> usize
         ensures { result ≡ next_layer (P.Net.net self.now.below).places (P.Net.net self.now.below).layer }
     {
-        let mut next: usize = 1;
-        'places: for p in 0..self.below.places() {
-            next = next.max(self.below.layer(p) + 1);
-        }
-        next
+        (0..self.below.places())
+            .map(|p| self.below.layer(p) + 1)
+            .max()
+            .unwrap_or(1)
     }
 
     // Whether the move `t` may take from the rows: a shut layer has none, and an uncontrollable move takes nothing there.

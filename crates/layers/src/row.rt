@@ -2,7 +2,6 @@
 ghost use Rattle.std.specs.Prelude.{◌≡◌, pos, slice_index_or};
 ghost use Rattle.layers.specs.Rows.{row_of, rule_row};
 ghost use Rattle.model.specs.Layer.{blank};
-ghost use Rattle.model.specs.Rule.{positive, negative};
 
 use model::sizes::MOST_MOVES;
 
@@ -13,20 +12,6 @@ pub struct Row {
     pub(crate) raises: [i32; MOST_MOVES],
     pub(crate) free: u32,
     pub(crate) in_use: bool,
-}
-
-// By how much a number is above 0.
-fn rise(raise: i32) -> u32
-    ensures { result ≡ positive raise }
-{
-    raise.max(0) as u32
-}
-
-// By how much a number is below 0.
-fn fall(raise: i32) -> u32
-    ensures { result ≡ negative raise }
-{
-    raise.min(0).unsigned_abs()
 }
 
 impl Row {
@@ -52,14 +37,14 @@ impl Row {
     pub(crate) fn take(&self, t: usize) -> u32
         ensures { result ≡ (row_of self.now).take t }
     {
-        rise(self.raise(t))
+        self.raise(t).max(0) as u32
     }
 
     // What the move `t` gives here: what it lowers the rule by.
     pub(crate) fn give(&self, t: usize) -> u32
         ensures { result ≡ (row_of self.now).give t }
     {
-        fall(self.raise(t))
+        self.raise(t).min(0).unsigned_abs()
     }
 
     // Makes this the row of a rule, by what each move raises it, with so many tokens.

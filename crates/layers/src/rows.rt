@@ -5,6 +5,7 @@ ghost use Rattle.layers.specs.Kept.{Kept};
 ghost use Rattle.layers.specs.Rows.{rule_row};
 ghost use Rattle.model.specs.Layer.{Row as RowValue, Top, row_count, blank, row_with, change_row};
 ghost use Rattle.model.specs.Plant.{lowest as lowest_of};
+ghost use Rattle.plant.specs.Searches.{Adds};
 ghost use Rattle.model.specs.Sizes.{board_rows, control_limit, most_control_arc};
 
 use model::sizes::{CONTROL_LIMIT, MOST_MOVES};
@@ -51,24 +52,26 @@ pub trait Rows {
         lowest(self.count(), |r| self.free(r) < self.take(r, t))
     }
 
+    // The lowest row that would go over its limit by what `added` says of it.
+    fn over<F: Fn(usize) -> u32>(&self, added: F) -> Option<usize>
+        requires { (r : ℕ) → r < row_count top → F.pre added r }
+        ensures { (f : ℕ → ℕ) → Adds (F.post added) (row_count top) f → result ≡ lowest_of (λ r. nat_lt control_limit ((rows self.now r).free + f r)) 0 (row_count top) }
+    {
+        lowest(self.count(), |r| CONTROL_LIMIT - self.free(r) < added(r))
+    }
+
     // The lowest row that would go over its limit by what the move `t` gives there.
-    // Kept: one line here and one in the next. A shared `over_by(|r| self.give(r, t))` would call its closure in the closure that it
-    // gives to `lowest`, with a clause on what the first may be asked, one on what it answers, and two on the second.
     fn over_by_give(&self, t: usize) -> Option<usize>
         ensures { result ≡ lowest_of (λ r. nat_lt control_limit ((rows self.now r).free + (rows self.now r).give t)) 0 (row_count top) }
     {
-        lowest(self.count(), |r| {
-            CONTROL_LIMIT - self.free(r) < self.give(r, t)
-        })
+        self.over(|r| self.give(r, t))
     }
 
     // The lowest row that would go over its limit by what the move `t` takes there.
     fn over_by_take(&self, t: usize) -> Option<usize>
         ensures { result ≡ lowest_of (λ r. nat_lt control_limit ((rows self.now r).free + (rows self.now r).take t)) 0 (row_count top) }
     {
-        lowest(self.count(), |r| {
-            CONTROL_LIMIT - self.free(r) < self.take(r, t)
-        })
+        self.over(|r| self.take(r, t))
     }
 
     // Takes from each row what the move `t` takes there.

@@ -14,18 +14,11 @@ use plant::find::lowest;
 use plant::plant::Plant;
 
 impl<P: Plant> Ledger<P> {
-    // Refused for a missing move.
-    fn check_known(&self, t: usize) -> Result<(), Fault>
-        ensures { result ≡ known (P.Net.net self.now.pile) t }
-    {
-        Fault::of_move(Refusal::NoMove, t).unless(t < self.pile.moves())
-    }
-
     // The checks of a grant before any place is looked at.
     fn check_grant(&self, t: usize) -> Result<(), Fault>
         ensures { result ≡ grant_checks (P.Net.net self.now.pile) (opened self.now.grants.counts) t }
     {
-        self.check_known(t)?;
+        self.pile.known(t)?;
         Fault::of_move(Refusal::Uncontrollable, t).unless(self.pile.controllable(t))?;
         Fault::of_move(Refusal::TooManyOpen, t).unless(self.grants.total() < MOST_OPEN)
     }
@@ -34,7 +27,7 @@ impl<P: Plant> Ledger<P> {
     pub(crate) fn check_open(&self, t: usize) -> Result<(), Fault>
         ensures { result ≡ (known (P.Net.net self.now.pile) t else_by is_open (opened self.now.grants.counts) t) }
     {
-        self.check_known(t)?;
+        self.pile.known(t)?;
         Fault::of_move(Refusal::NotOpen, t).unless(0 < self.grants.of(t))
     }
 
@@ -61,9 +54,8 @@ impl<P: Plant> Ledger<P> {
     fn check_room(&self, t: usize) -> Result<(), Fault>
         ensures { result ≡ room_answer (P.Net.net self.now.pile) (P.Plant.tokens self.now.pile) (opened self.now.grants.counts) t }
     {
-        self.crowded_place(t).map_or(Ok(()), |p| {
-            Err(Fault::at(Refusal::NoRoom, t, self.pile.spot(p)))
-        })
+        self.pile
+            .refuse_at(Refusal::NoRoom, t, self.crowded_place(t))
     }
 
     // What `grant` would answer now.
@@ -96,7 +88,7 @@ impl<P: Plant> Ledger<P> {
     pub fn may_report(&self, t: usize) -> Result<(), Fault>
         ensures { result ≡ answer (value_of self.now) (report t) }
     {
-        self.check_known(t)?;
+        self.pile.known(t)?;
         Fault::of_move(Refusal::Controllable, t).unless(!self.pile.controllable(t))?;
         self.pile.may_begin(t)?;
         self.check_room(t)

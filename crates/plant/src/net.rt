@@ -1,7 +1,7 @@
 // The reading part of a net.
 ghost use Rattle.std.specs.Prelude.{◌≡◌, ℕ, ◌≤◌};
 ghost use Rattle.model.specs.Net.{Net as NetValue, Ranges};
-ghost use Rattle.model.specs.Plant.{known, refuse_at, fault_at};
+ghost use Rattle.model.specs.Plant.{known, refuse_at, fault_at, ◌else_by◌};
 
 use model::fault::{Fault, Spot};
 use model::refusal::Refusal;
@@ -66,10 +66,15 @@ pub trait Net {
     final fn refuse_at(&self, refusal: Refusal, t: usize, found: Option<usize>) -> Result<(), Fault>
         ensures { result ≡ refuse_at (fault_at (net self.now) refusal t) found }
     {
-        match found {
-            Some(p) => Err(Fault::at(refusal, t, self.spot(p))),
-            None => Ok(()),
-        }
+        found.map_or(Ok(()), |p| Err(Fault::at(refusal, t, self.spot(p))))
+    }
+
+    // The answer to a question about the move `t`: refused if there is no such move, else at the place that was found, if one was.
+    final fn answer_at(&self, refusal: Refusal, t: usize, found: Option<usize>) -> Result<(), Fault>
+        ensures { result ≡ (known (net self.now) t else_by refuse_at (fault_at (net self.now) refusal t) found) }
+    {
+        self.known(t)?;
+        self.refuse_at(refusal, t, found)
     }
 
     ghost sound: { (s : Self) → Ranges (net s) };

@@ -1,5 +1,6 @@
 // What moves: a net with tokens.
-ghost use Rattle.std.specs.Prelude.{◌≡◌, ℕ, ◌≤◌, if◌then◌else◌};
+ghost use Rattle.std.specs.Prelude.{◌≡◌, ℕ, ◌<◌, ◌≤◌, if◌then◌else◌};
+ghost use Rattle.plant.specs.Searches.{Adds};
 ghost use Rattle.model.specs.Plant.{accepted, short_place, over_place, begin_answer, finish_answer, back_answer, begun, finished, gone_back};
 ghost use Rattle.model.specs.Layer.{Pile, pile_net, pile_free, pile_begun, pile_finished, pile_gone_back};
 
@@ -28,49 +29,47 @@ pub trait Plant: Net {
         lowest(self.places(), |p| self.free(p) < self.take(p, t))
     }
 
+    // The lowest place that has no room for what `added` says of it.
+    fn over_place<F: Fn(usize) -> u32>(&self, added: F) -> Option<usize>
+        requires { (p : ℕ) → p < (Self.Net.net self.now).places → F.pre added p }
+        ensures { (f : ℕ → ℕ) → Adds (F.post added) (Self.Net.net self.now).places f → result ≡ over_place (Self.Net.net self.now) (tokens self.now) f }
+    {
+        lowest(self.places(), |p| self.limit(p) - self.free(p) < added(p))
+    }
+
     // The lowest place that has no room for what the move `t` gives there.
-    // Kept: this and the next differ in `give` and `take`; one function of both would take a closure, with more clauses than lines here.
     fn over_by_give(&self, t: usize) -> Option<usize>
         ensures { result ≡ over_place (Self.Net.net self.now) (tokens self.now) (λ p. (Self.Net.net self.now).give p t) }
     {
-        lowest(
-            self.places(),
-            |p| self.limit(p) - self.free(p) < self.give(p, t),
-        )
+        self.over_place(|p| self.give(p, t))
     }
 
     // The lowest place that has no room for what the move `t` takes there.
     fn over_by_take(&self, t: usize) -> Option<usize>
         ensures { result ≡ over_place (Self.Net.net self.now) (tokens self.now) (λ p. (Self.Net.net self.now).take p t) }
     {
-        lowest(
-            self.places(),
-            |p| self.limit(p) - self.free(p) < self.take(p, t),
-        )
+        self.over_place(|p| self.take(p, t))
     }
 
     // What `begin` would answer now.
     fn may_begin(&self, t: usize) -> Result<(), Fault>
         ensures { result ≡ begin_answer (Self.Net.net self.now) (tokens self.now) t }
     {
-        self.known(t)?;
-        self.refuse_at(Refusal::Short, t, self.short_place(t))
+        self.answer_at(Refusal::Short, t, self.short_place(t))
     }
 
     // What `finish` would answer now.
     fn may_finish(&self, t: usize) -> Result<(), Fault>
         ensures { result ≡ finish_answer (Self.Net.net self.now) (tokens self.now) t }
     {
-        self.known(t)?;
-        self.refuse_at(Refusal::OverLimit, t, self.over_by_give(t))
+        self.answer_at(Refusal::OverLimit, t, self.over_by_give(t))
     }
 
     // What `back` would answer now.
     fn may_back(&self, t: usize) -> Result<(), Fault>
         ensures { result ≡ back_answer (Self.Net.net self.now) (tokens self.now) t }
     {
-        self.known(t)?;
-        self.refuse_at(Refusal::OverLimit, t, self.over_by_take(t))
+        self.answer_at(Refusal::OverLimit, t, self.over_by_take(t))
     }
 
     // Takes the tokens of the move `t` from its places, or answers at which place they are short.
