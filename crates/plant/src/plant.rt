@@ -29,7 +29,8 @@ pub trait Plant: Net {
     }
 
     // The lowest place that has no room for what the move `t` gives there.
-    // Kept: this and the next differ in `give` and `take`; one function of both would take a closure, with more clauses than lines here.
+    // Kept: this and the next differ in `give` and `take`. A shared `over(|p| self.give(p, t))` would require that its closure may be called
+    // below `places` and promise a place by what the closure gives there, and the closure inside, which calls it, would say both again.
     fn over_by_give(&self, t: usize) -> Option<usize>
         ensures { result ≡ over_place (Self.Net.net self.now) (tokens self.now) (λ p. (Self.Net.net self.now).give p t) }
     {
