@@ -27,8 +27,9 @@ impl<P: Plant, R: Rows> Plant for Layer<P, R> {
             .map_or_else(|| self.below.free(p), |r| self.rows.free(r))
     }
 
-    // Kept: this search and the next two, a `match` each. One for all would take the search of the rows as a closure
-    // `F: FnOnce() -> Option<usize>`, with clauses of what it asks and what it finds, longer than the three.
+    // Kept: a `match` here and in the next two. `or_else(|| self.rows_take(t).then(|| self.place_of(self.rows.short(t))).flatten())` proves
+    // too, but puts a closure in a closure for the two arms. One function of all three, given `self.rows.short(t)` as a value, would search
+    // the rows even where a place below is short or the move takes nothing from them.
     #[tactic(auto, using(crate::proofs::Calls::short_is))]
     fn short_place(&self, t: usize) -> Option<usize> {
         match self.below.short_place(t) {

@@ -6,7 +6,8 @@ ghost use Rattle.model.specs.Layer.{blank};
 use model::sizes::MOST_MOVES;
 
 // By how much each move raises the rule, the tokens that are free, and whether a rule is set.
-// Kept: `in_use` beside the arcs is no `Option`, since a board's table holds twelve plain rows, each with its arcs from the start.
+// Kept: `in_use` is no `Option` of the arcs and the tokens: the project asks for twelve plain row structs in a board, and a row without a
+// rule is told by its arcs and its tokens too (all 0), so `take`, `give` and `free` would each have to say what `None` has.
 #[derive(Clone, Copy)]
 pub struct Row {
     pub(crate) raises: [i32; MOST_MOVES],

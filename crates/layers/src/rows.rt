@@ -1,5 +1,6 @@
 // The rows of a layer, behind one trait, so that a layer is one type over any plant.
-// Kept: a trait with one implementation, since a layer of `P` beside `[Row; N]` would ask each caller that both fit in memory.
+// Kept: a trait with one implementation. Its laws `some`, `few`, `missing` and `kept` are shown once, for `Table<N>`, and each function over
+// a layer has them of its rows; with methods of `Table<N>` alone each of those proofs would draw them from the ghost fields of the table.
 ghost use Rattle.std.specs.Prelude.{◌≡◌, ℕ, ◌+◌, ◌-◌, ◌<◌, ◌≤◌, pos, nat_lt, slice_index_or, unsigned_abs};
 ghost use Rattle.layers.specs.Kept.{Kept};
 ghost use Rattle.layers.specs.Rows.{rule_row};

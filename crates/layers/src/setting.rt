@@ -46,6 +46,8 @@ impl<P: Plant, R: Rows> Layer<P, R> {
     }
 
     // Sets the row `r` to the rule, or answers why not.
+    // Kept: `below` and `refused` stand here, in `Board::set` and in `Monitor::set`: those two are public and promise them to callers, and
+    // the check of each knows of this call only what is said here.
     pub(crate) fn set_row(&mut self, r: usize, typed: &TypedRule) -> Result<(), Fault>
         requires { r < row_count R.Rows.top }
         ensures answer { result ≡ top_answer (⟦<Self as Plant>⟧.pile self.old) r (rule_of typed.now) }

@@ -68,7 +68,8 @@ impl<P: Plant> Ledger<P> {
     }
 
     // What `commit` would answer now.
-    // Kept: this and `may_cancel` share `check_open` and add one question of the pile each; one function would take it as a closure.
+    // Kept: two lines here and in `may_cancel`. `check_open(t).and(..)`, with the answer of the pile as a value, is one, but it asks the pile,
+    // which looks at each place, even where no grant is open; and so would one function of both, given the second answer.
     pub fn may_commit(&self, t: usize) -> Result<(), Fault>
         ensures { result ≡ answer (value_of self.now) (commit t) }
     {
