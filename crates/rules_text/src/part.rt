@@ -86,7 +86,7 @@ fn len_of<F: Fn(u8) -> bool>(bytes: &[u8], test: F) -> usize
 fn begins_name(sum: &[u8], i: usize) -> bool
     ensures { result ≡ begins_name (piece_at sum.now i) }
 {
-    i < sum.len() && is_letter(sum[i])
+    sum.get(i).is_some_and(|b| is_letter(*b))
 }
 
 // The number before a star: 1 to 99, with no leading zero.

@@ -16,7 +16,7 @@ use model::refusal::Refusal;
 use model::sizes::{MOST_PLACES, MOST_RULES};
 use net_text::named_net::NamedNet;
 use std::alloc::Global;
-use texts::at::At;
+use texts::at::{At, WHOLE};
 use texts::lines::{check_text, read_line};
 use texts::record::Record;
 use texts::stop::ReadError;
@@ -77,7 +77,7 @@ impl RulesReader<'_> {
     {
         match line {
             Record::Rule { name, sum, bound } => self.add_rule(rules, at, name, sum, bound),
-            _ => Err(ReadError::Refused(at.fault(Refusal::NoRecord, at.byte))),
+            _ => Err(at.fault(Refusal::NoRecord, at.byte).into()),
         }
     }
 
@@ -101,10 +101,7 @@ impl RulesReader<'_> {
 pub fn read_rules(alloc: Global, net: &NamedNet, text: &[u8]) -> Result<RulesText, ReadError>
     ensures { RulesRead net.now text.now result }
 {
-    if net.place_count() > MOST_PLACES {
-        let whole = At { line: 0, byte: 0 };
-        return Err(ReadError::Refused(whole.fault(Refusal::TooMany, 0)));
-    }
+    WHOLE.check(net.place_count() <= MOST_PLACES, Refusal::TooMany, 0)?;
     check_text(text)?;
     let mut lines = Lines::new(text);
     let Some((at, first)) = lines.next() else {
