@@ -18,6 +18,8 @@ pub fn name_at<'a, N: Named>(items: &[N], text: &'a [u8], i: usize) -> Option<&'
 
 // A net as it was read, with the text that its names are parts of; a name lives as long as the text. A contract sees the net that
 // they say.
+// Kept: beside `NamedRules` of `rules_text`; a struct for both, of some `T` and its text, would share two fields and no method, and
+// only a net has the `Model` below: read rules have weights where their text has sums, so that no view gives the text's value.
 #[derive(Drop)]
 pub struct NamedNet<'n, 'a> {
     pub net: &'n NetText,

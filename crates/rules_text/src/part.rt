@@ -97,6 +97,9 @@ fn factor(digits: &[u8]) -> Option<u32>
     number(digits, FACTOR_DIGITS).filter(|n| *n >= 1)
 }
 
+// Kept: `start_within` is what the slice of the sum, a named form of the project, asks. A `get(start..)` would have an answer to give for
+// a start that no caller has; a struct of this reader and a start with that bound would be built for a part and again for its name,
+// and all below would read `self.reader.at` for `self.at`.
 impl SumReader<'_> {
     // Where the digits from `start` on end.
     fn digits_end(&self, start: usize) -> usize

@@ -29,6 +29,8 @@ fn rule_fits(rules: &RulesText) -> bool
     rules.others.len() < MOST_RULES
 }
 
+// Kept: `rules` stand beside `self`, as there are none before this reader has read the fixed rule. One that held them would be a
+// second struct around this one, and each of the three methods that change them would ensure besides that the reader is as it was.
 impl RulesReader<'_> {
     // Whether no place, no move and no rule has the name.
     fn is_new(&self, rules: &RulesText, name: &[u8]) -> bool

@@ -37,6 +37,8 @@ impl At {
     }
 
     // The number of a field of at most `digits` digits.
+    // Kept: a struct of a field, its line and its byte would be written at each call, `Field { text, at, byte }.number(digits)` for
+    // `at.number(text, digits, byte)`, and a line has one `at` for all its fields.
     pub fn number(self, field: &[u8], digits: usize, byte: usize) -> Result<u32, TextFault>
         ensures { result ≡ checked (check (is_numeral (min digits most_digits) field.now) Field byte ∷ []) self.line (value field.now) }
     {

@@ -37,6 +37,8 @@ impl<'a> Iterator for Lines<'a> {
 
     ghost remaining = { item_count lines_left };
 
+    // Kept: a `split` at the newlines would give the lines without the byte where each starts, which would be counted as here, and
+    // one empty line more after the last newline.
     fn next(&mut self) -> Option<(At, &'a [u8])> {
         if self.rest.is_empty() {
             return None;
