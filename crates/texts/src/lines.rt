@@ -53,8 +53,8 @@ pub fn check_text(text: &[u8]) -> Result<(), TextFault>
 }
 
 // The first field of a line and, if a tab ends it, what follows.
-// Kept: a `split` at the tabs gives fields and not what follows them as a part of the line, which this public function answers; the
-// last field of a `split` does not tell whether a tab ended it.
+// Kept: `line.splitn(2, |b| *b == b'\t')` would give the same two parts in as many lines, with a default, `unwrap_or(line)`, for a
+// first part that is always there.
 pub fn cut<'a>(line: &'a [u8]) -> (&'a [u8], Option<&'a [u8]>)
     ensures { fields line.now ≡ result.0.now ∷ rest_fields (option_map (λ x. x.now) result.1) }
 {
