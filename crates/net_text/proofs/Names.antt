@@ -5,7 +5,7 @@ use Rattle.formats.specs.Words.{is_new, index_of}
 use Rattle.formats.specs.ReadNet.{known_checks}
 use Rattle.formats.specs.NetText as value
 use Rattle.formats.specs.NetText.{names, place_names, move_names}
-use Rattle.texts.specs.Spans.{part_of, checked}
+use Rattle.texts.specs.Spans.{part_of, titles_of, checked}
 use Rattle.texts.proofs.Naming.{map_map, new_append}
 use Rattle.net_text.specs.declared.net.Place.{Place}
 use Rattle.net_text.specs.declared.net.Move.{Move}
@@ -18,7 +18,8 @@ places_of bs x = map_map (λ (p : value.Place). p.name) (place_of bs) (vec_items
 pub moves_of : (bs : List ℕ) (x : NetText) → move_names (net_of bs x) ≡ move_titles bs x
 moves_of bs x = map_map (λ (m : value.Move). m.name) (move_of bs) (vec_items x.moves)
 
-pub new_names : (bs : List ℕ) (x : NetText) (n : List ℕ) → is_new (names (net_of bs x)) n ≡ (is_new (place_titles bs x) n && is_new (move_titles bs x) n)
+pub new_names : (bs : List ℕ) (x : NetText) (n : List ℕ) → is_new (names (net_of bs x)) n
+    ≡ (is_new (titles_of bs (λ (p : Place). p.name) (vec_items x.places)) n && is_new (titles_of bs (λ (m : Move). m.name) (vec_items x.moves)) n)
 new_names bs x n = ap₂ (λ (u v : List (List ℕ)). is_new (u ++ v) n) (places_of bs x) (moves_of bs x) ∙ new_append (place_titles bs x) (move_titles bs x) n
 
 -- what is known of the items by their names is known of the names in the net

@@ -1,9 +1,9 @@
 // A net with its text, and the names of its places and moves as parts of the text.
-ghost use Rattle.std.specs.Prelude.{◌≡◌, ◌^◌, ◌<◌, map, length, slice_get, IfSome};
+ghost use Rattle.std.specs.Prelude.{◌≡◌, ◌^◌, ◌<◌, length, slice_get, IfSome};
 ghost use Rattle.std.specs.Option.{option_map};
 ghost use Rattle.formats.specs.Words.{is_new};
 ghost use Rattle.formats.specs.NetText.{names, place_names, move_names};
-ghost use Rattle.texts.specs.Spans.{part_of, found};
+ghost use Rattle.texts.specs.Spans.{titles_of, found};
 
 use crate::net::NetText;
 use std::marker::Model;
@@ -11,13 +11,15 @@ use texts::names::{Named, find, lacks, part};
 
 // The name of the item `i`, as a part of the text.
 pub fn name_at<'a, N: Named>(items: &[N], text: &'a [u8], i: usize) -> Option<&'a [u8]>
-    ensures { option_map (λ x. x.now) result ≡ slice_get (map (λ x. part_of text.now (N.Named.title x)) items.now) i }
+    ensures { option_map (λ x. x.now) result ≡ slice_get (titles_of text.now N.Named.title items.now) i }
 {
     items.get(i).map(|item| part(text, item.name()))
 }
 
 // A net as it was read, with the text that its names are parts of; a name lives as long as the text. A contract sees the net that
 // they say.
+// Kept: beside `NamedRules` of `rules_text`; a struct for both, of some `T` and its text, would share two fields and no method, and
+// only a net has the `Model` below: read rules have weights where their text has sums, so that no view gives the text's value.
 #[derive(Drop)]
 pub struct NamedNet<'n, 'a> {
     pub net: &'n NetText,

@@ -28,6 +28,8 @@ pub(crate) struct NetReader<'a> {
 }
 
 // The kind of plant that a field names.
+// Kept: here and below `field, at, byte` stand side by side; a struct of the three would be built in each call and read apart in each
+// function, as `field.text` in the match and `field.at.fault(.., field.byte)` in the refusal.
 pub(crate) fn read_kind(field: &[u8], at: At, byte: usize) -> Result<Kind, TextFault>
     ensures { result ≡ checked (kind_checks byte field.now) at.line (kind_of field.now) }
 {

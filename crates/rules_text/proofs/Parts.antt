@@ -1,6 +1,8 @@
 -- The pieces of a sum, as a reader finds them that goes from byte to byte.
-use Rattle.std.proofs.Common.{◌≡◌, ℕ, zero, suc, ◌+◌, ◌-◌, ◌<◌, ◌≤◌, min, Bool, true, false, cond, not, ◌&&◌, ◌||◌, eqb, leb, ◌⊎◌, List, [], ◌∷◌, length, get_or, take, drop, IfSome, Some, None, Ok, Err, Option, Result, sym, refl, ap, ◌∙◌, subst, ap₂, inl, inr, arith}
+use Rattle.std.proofs.Common.{◌≡◌, ℕ, zero, suc, ◌+◌, ◌-◌, ◌<◌, ◌≤◌, min, Bool, true, false, cond, not, ◌&&◌, ◌||◌, eqb, leb, ◌⊎◌, List, [], ◌∷◌, length, get_or, take, drop, IfSome, MatchOption, Some, None, Ok, Err, Option, Result, sym, refl, ap, ◌∙◌, subst, ap₂, inl, inr, arith}
 use Rattle.std.specs.List.{prefix_len}
+use Rattle.std.specs.Borrow.{Bor}
+use Rattle.std.specs.Option.{option_map, unwrap_or}
 use Rattle.std.proofs.lemmas.List.{take-take, length-take-le, drop-take, drop-drop, length-drop, get_or-drop, get_or-take, get_or_past}
 use Rattle.std.proofs.lemmas.List.Sums.{prefix_len-le-length, prefix_len_passes, prefix_len_stops}
 use Rattle.std.proofs.lemmas.List.Folds.{length-prefix_len}
@@ -134,21 +136,27 @@ begins_first : (xs : List ℕ) → begins_name xs ≡ is_letter (get_or xs 0 0)
 begins_first [] = refl
 begins_first (x ∷ xs) = refl
 
-pub begins : (f : List ℕ) (i : ℕ) → i < length f → begins_name (piece_at f i) ≡ is_letter (get_or f i 0)
-begins f i h = begins_first (piece_at f i) ∙ go (cases_lt 0 (length (piece_at f i)))
+begins : (f : List ℕ) (i : ℕ) → begins_name (piece_at f i) ≡ is_letter (get_or f i 0)
+begins f i = begins_first (piece_at f i) ∙ go (cases_lt 0 (length (piece_at f i)))
   where
     here : get_or f (i + 0) 0 ≡ get_or f i 0
     here = ap (λ (k : ℕ). get_or f k 0) (omega arith)
 
-    none_there : length (piece_at f i) ≡ 0 → is_letter (get_or f i 0) ≡ false
-    none_there e =
+    none_there : i < length f → length (piece_at f i) ≡ 0 → is_letter (get_or f i 0) ≡ false
+    none_there h e =
         let at : i + length (piece_at f i) ≡ i = omega arith in
         let s = subst (λ (k : ℕ). no_sign (get_or f k 0) ≡ false) at (piece_sign f i (omega arith)) in
         elim (signed (get_or f i 0) s) [ inl a ↦ ap is_letter a | inr a ↦ ap is_letter a ]
 
     go : (0 < length (piece_at f i)) ⊎ (length (piece_at f i) ≤ 0) → is_letter (get_or (piece_at f i) 0 0) ≡ is_letter (get_or f i 0)
     go (inl l) = ap is_letter ((piece_byte f i 0 l).0 ∙ here)
-    go (inr l) = ap is_letter (get_or_past (piece_at f i) 0 0 l) ∙ sym (none_there (omega arith))
+    go (inr l) = ap is_letter (get_or_past (piece_at f i) 0 0 l) ∙ sym (elim (cases_lt i (length f)) [ inl h ↦ none_there h (omega arith) | inr h ↦ ap is_letter (get_or_past f i 0 h) ])
+
+-- what stands at i, if anything does, tells whether a name begins there
+pub begins_at : (f : List ℕ) (i : ℕ) (o : Option (Bor ℕ)) (r : Bool) (Q : Bor ℕ → Type 0) → unwrap_or (option_map (λ x. x.now) o) 0 ≡ get_or f i 0
+    → MatchOption o (r ≡ false) Q → ((x : Bor ℕ) → Q x → r ≡ is_letter x.now) → r ≡ begins_name (piece_at f i)
+begins_at f i None r Q h m t = m ∙ ap is_letter h ∙ sym (begins f i)
+begins_at f i (Some x) r Q h m t = t x m ∙ ap is_letter h ∙ sym (begins f i)
 
 -- ---- its digits
 pub digits_are : (f : List ℕ) (i : ℕ) → digits (piece_at f i) ≡ take (prefix_len is_digit (drop i f)) (drop i f)

@@ -11,6 +11,8 @@ use net_text::named_net::{NamedNet, name_at};
 use texts::names::{find, lacks, part};
 
 // A rule of a rules text: the fixed one, or the one that belongs to a row.
+// Kept: the answer of `find_rule`; its other form, `Option<Option<usize>>`, would write the fixed rule as `Some(None)` beside `None`
+// for no rule.
 #[derive(Clone, Copy)]
 pub enum Rule {
     Fixed,

@@ -86,7 +86,7 @@ fn len_of<F: Fn(u8) -> bool>(bytes: &[u8], test: F) -> usize
 fn begins_name(sum: &[u8], i: usize) -> bool
     ensures { result ≡ begins_name (piece_at sum.now i) }
 {
-    i < sum.len() && is_letter(sum[i])
+    sum.get(i).is_some_and(|b| is_letter(*b))
 }
 
 // The number before a star: 1 to 99, with no leading zero.
@@ -97,6 +97,9 @@ fn factor(digits: &[u8]) -> Option<u32>
     number(digits, FACTOR_DIGITS).filter(|n| *n >= 1)
 }
 
+// Kept: `start_within` is what the slice of the sum, a named form of the project, asks. A `get(start..)` would have an answer to give for
+// a start that no caller has; a struct of this reader and a start with that bound would be built for a part and again for its name,
+// and all below would read `self.reader.at` for `self.at`.
 impl SumReader<'_> {
     // Where the digits from `start` on end.
     fn digits_end(&self, start: usize) -> usize

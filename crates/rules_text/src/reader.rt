@@ -16,7 +16,7 @@ use model::refusal::Refusal;
 use model::sizes::{MOST_PLACES, MOST_RULES};
 use net_text::named_net::NamedNet;
 use std::alloc::Global;
-use texts::at::At;
+use texts::at::{At, WHOLE};
 use texts::lines::{check_text, read_line};
 use texts::record::Record;
 use texts::stop::ReadError;
@@ -29,6 +29,8 @@ fn rule_fits(rules: &RulesText) -> bool
     rules.others.len() < MOST_RULES
 }
 
+// Kept: `rules` stand beside `self`, as there are none before this reader has read the fixed rule. One that held them would be a
+// second struct around this one, and each of the three methods that change them would ensure besides that the reader is as it was.
 impl RulesReader<'_> {
     // Whether no place, no move and no rule has the name.
     fn is_new(&self, rules: &RulesText, name: &[u8]) -> bool
@@ -77,7 +79,7 @@ impl RulesReader<'_> {
     {
         match line {
             Record::Rule { name, sum, bound } => self.add_rule(rules, at, name, sum, bound),
-            _ => Err(ReadError::Refused(at.fault(Refusal::NoRecord, at.byte))),
+            _ => Err(at.fault(Refusal::NoRecord, at.byte).into()),
         }
     }
 
@@ -101,10 +103,7 @@ impl RulesReader<'_> {
 pub fn read_rules(alloc: Global, net: &NamedNet, text: &[u8]) -> Result<RulesText, ReadError>
     ensures { RulesRead net.now text.now result }
 {
-    if net.place_count() > MOST_PLACES {
-        let whole = At { line: 0, byte: 0 };
-        return Err(ReadError::Refused(whole.fault(Refusal::TooMany, 0)));
-    }
+    WHOLE.check(net.place_count() <= MOST_PLACES, Refusal::TooMany, 0)?;
     check_text(text)?;
     let mut lines = Lines::new(text);
     let Some((at, first)) = lines.next() else {

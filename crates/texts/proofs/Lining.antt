@@ -1,9 +1,10 @@
 -- Whole texts, their lines and the fields of a line.
-use Rattle.std.proofs.Common.{◌≡◌, ℕ, ◌+◌, ◌-◌, ◌<◌, ◌≤◌, Bool, true, false, cond, ◌&&◌, eqb, ◌⊎◌, List, [], ◌∷◌, length, get_or, take, drop, Ok, Err, Some, None, Option, sym, ap, ◌∙◌, ap₂, inl, inr, arith}
-use Rattle.std.specs.List.{prefix_len}
+use Rattle.std.proofs.Common.{◌≡◌, ℕ, ◌+◌, ◌-◌, ◌<◌, ◌≤◌, Bool, true, false, cond, ◌&&◌, eqb, ◌⊎◌, List, [], ◌∷◌, length, get_or, take, drop, Ok, Err, Some, None, Option, sym, refl, ap, ◌∙◌, ap₂, inl, inr, arith}
+use Rattle.std.specs.List.{prefix_len, slice_get}
 use Rattle.std.specs.Borrow.{Bor}
-use Rattle.std.specs.Option.{option_map}
+use Rattle.std.specs.Option.{option_map, option_eq}
 use Rattle.std.specs.Slice.{IsGetRangeResult}
+use Rattle.std.proofs.lemmas.Option.{none-some, slice_get-get_or, get_or_from_slice_get}
 use Rattle.std.proofs.lemmas.List.{take_rest, take_all}
 use Rattle.std.proofs.lemmas.Bool.{cond-true, cond-false, lt-ltb, le-leb, eq-eqb, ne_eqb}
 use Rattle.formats.specs.Words.{is_not, is_allowed, fields, last}
@@ -21,6 +22,13 @@ pub text_at : (bs : List ℕ) → 0 < length bs → length bs ≤ 16384 → eqb 
 text_at bs some few =
     ap (λ (b : ℕ). eqb b 10) (sym (last_is bs some))
     ∙ sym (ap₂ (λ (a b : Bool). a && (b && eqb (last bs) 10)) (lt-ltb 0 (length bs) some) (le-leb (length bs) 16384 few))
+
+pub text_ended : (bs : List ℕ) (r : Option (Bor ℕ)) (y : Bor ℕ) → y.now ≡ 10 → option_map (λ x. x.now) r ≡ slice_get bs (length bs - 1) → length bs ≤ 16384
+    → option_eq (λ (a b : Bor ℕ). eqb a.now b.now) r (Some y) ≡ is_text bs
+text_ended [] None y e m few = refl
+text_ended [] (Some x) y e m few = absurd (none-some x.now (sym m))
+text_ended (b ∷ bs) None y e m few = absurd (none-some _ (m ∙ slice_get-get_or (b ∷ bs) (length (b ∷ bs) - 1) 0 (omega arith)))
+text_ended (b ∷ bs) (Some x) y e m few = ap₂ eqb (sym (get_or_from_slice_get (b ∷ bs) (length (b ∷ bs) - 1) x.now 0 (sym m))) e ∙ text_at (b ∷ bs) (omega arith) few
 
 -- the byte at i is not allowed
 pub byte_bad : (bs : List ℕ) (k i : ℕ) → bad_byte k i (drop i bs) ≡ bad_byte 1 0 bs → i < length bs → is_allowed (get_or bs i 0) ≡ false → Err (fault Byte k i) ≡ bytes_check bs

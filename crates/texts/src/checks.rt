@@ -1,11 +1,11 @@
 // The checks of a line's fields, each with the refusal and the byte if it fails.
-ghost use Rattle.std.specs.Prelude.{◌≡◌, min, [], ◌∷◌, map};
+ghost use Rattle.std.specs.Prelude.{◌≡◌, min, [], ◌∷◌};
 ghost use Rattle.model.specs.declared.refusal.Refusal.TheVariants.{Field};
 ghost use Rattle.formats.specs.Words.{is_numeral, value, index_of};
 ghost use Rattle.formats.specs.Texts.{check, fault};
 ghost use Rattle.formats.specs.ReadNet.{known_checks};
 ghost use Rattle.texts.specs.Numbers.{most_digits};
-ghost use Rattle.texts.specs.Spans.{part_of, checked};
+ghost use Rattle.texts.specs.Spans.{titles_of, checked};
 
 use crate::at::At;
 use crate::names::{Named, find};
@@ -37,6 +37,8 @@ impl At {
     }
 
     // The number of a field of at most `digits` digits.
+    // Kept: a struct of a field, its line and its byte would be written at each call, `Field { text, at, byte }.number(digits)` for
+    // `at.number(text, digits, byte)`, and a line has one `at` for all its fields.
     pub fn number(self, field: &[u8], digits: usize, byte: usize) -> Result<u32, TextFault>
         ensures { result ≡ checked (check (is_numeral (min digits most_digits) field.now) Field byte ∷ []) self.line (value field.now) }
     {
@@ -51,7 +53,7 @@ impl At {
         field: &[u8],
         byte: usize,
     ) -> Result<usize, TextFault>
-        ensures { result ≡ checked (known_checks (map (λ x. part_of text.now (N.Named.title x)) items.now) byte field.now) self.line (index_of (map (λ x. part_of text.now (N.Named.title x)) items.now) field.now) }
+        ensures { result ≡ checked (known_checks (titles_of text.now N.Named.title items.now) byte field.now) self.line (index_of (titles_of text.now N.Named.title items.now) field.now) }
     {
         self.check(is_name(field), Refusal::Field, byte)?;
         find(items, text, field).ok_or(self.fault(Refusal::NameUnknown, byte))

@@ -1,5 +1,5 @@
 // What every text must be, its lines, and the record of a line.
-ghost use Rattle.std.specs.Prelude.{◌≡◌, ℕ, ◌+◌, ◌<◌, ◌≤◌, [], ◌∷◌, length, ◌==◌};
+ghost use Rattle.std.specs.Prelude.{◌≡◌, ℕ, ◌+◌, ◌<◌, ◌≤◌, [], ◌∷◌, length};
 ghost use Rattle.std.specs.Option.{option_map};
 ghost use Rattle.formats.specs.Words.{is_allowed, fields};
 ghost use Rattle.formats.specs.Texts.{is_text, fault};
@@ -14,20 +14,11 @@ use formats::fault::TextFault;
 use model::refusal::Refusal;
 use model::sizes::MOST_BYTES;
 
-fn is_newline(b: u8) -> bool
-    ensures { result ≡ (b == 10) }
-{
-    b == b'\n'
-}
-
 // A text has at least one byte, at most `MOST_BYTES`, and ends in a newline.
 fn is_text(text: &[u8]) -> bool
     ensures { result ≡ is_text text.now }
 {
-    if text.is_empty() || text.len() > MOST_BYTES {
-        return false;
-    }
-    is_newline(text[text.len() - 1])
+    text.len() <= MOST_BYTES && text.last() == Some(&b'\n')
 }
 
 fn is_allowed(b: u8) -> bool
@@ -62,6 +53,8 @@ pub fn check_text(text: &[u8]) -> Result<(), TextFault>
 }
 
 // The first field of a line and, if a tab ends it, what follows.
+// Kept: `line.splitn(2, |b| *b == b'\t')` would give the same two parts in as many lines, with a default, `unwrap_or(line)`, for a
+// first part that is always there.
 pub fn cut<'a>(line: &'a [u8]) -> (&'a [u8], Option<&'a [u8]>)
     ensures { fields line.now ≡ result.0.now ∷ rest_fields (option_map (λ x. x.now) result.1) }
 {

@@ -1,7 +1,7 @@
 // Looking names up.
-ghost use Rattle.std.specs.Prelude.{◌≡◌, ℕ, ◌+◌, ◌<◌, ◌≤◌, map, length, IfSome};
+ghost use Rattle.std.specs.Prelude.{◌≡◌, ℕ, ◌+◌, ◌<◌, ◌≤◌, length, IfSome};
 ghost use Rattle.formats.specs.Words.{is_new};
-ghost use Rattle.texts.specs.Spans.{part_of, found};
+ghost use Rattle.texts.specs.Spans.{part_of, titles_of, found};
 ghost use Rattle.texts.specs.declared.span.Span.{Span};
 
 use crate::span::Span;
@@ -25,7 +25,7 @@ pub fn part<'a>(text: &'a [u8], span: Span) -> &'a [u8]
 
 // The index of the first item whose name, as a part of the text, is `name`.
 pub fn find<N: Named>(items: &[N], text: &[u8], name: &[u8]) -> Option<usize>
-    ensures value { result ≡ found (map (λ x. part_of text.now (N.Named.title x)) items.now) name.now }
+    ensures value { result ≡ found (titles_of text.now N.Named.title items.now) name.now }
     ensures within { IfSome result (λ i. i < length items.now) }
 {
     items
@@ -35,7 +35,7 @@ pub fn find<N: Named>(items: &[N], text: &[u8], name: &[u8]) -> Option<usize>
 
 // Whether no item has the name.
 pub fn lacks<N: Named>(items: &[N], text: &[u8], name: &[u8]) -> bool
-    ensures { result ≡ is_new (map (λ x. part_of text.now (N.Named.title x)) items.now) name.now }
+    ensures { result ≡ is_new (titles_of text.now N.Named.title items.now) name.now }
 {
     find(items, text, name).is_none()
 }

@@ -37,6 +37,8 @@ impl<'a> Iterator for Lines<'a> {
 
     ghost remaining = { item_count lines_left };
 
+    // Kept: a `split_inclusive` at the newlines would not tell the byte where a line starts, which would be counted as here, and would
+    // give the newline too, to be taken off by `strip_suffix(b"\n").unwrap_or(line)`; a `split` gives an empty line after the last.
     fn next(&mut self) -> Option<(At, &'a [u8])> {
         if self.rest.is_empty() {
             return None;

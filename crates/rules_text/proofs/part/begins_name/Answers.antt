@@ -1,6 +1,6 @@
-use Rattle.std.proofs.Common.{sym, ◌∙◌}
-use Rattle.rules_text.proofs.Parts.{begins}
+use Rattle.std.proofs.Common.{rules, tests, arith}
+use Rattle.rules_text.proofs.Parts.{begins_at}
 use Rattle.rules_text.proofs.part.begins_name.Goals as goal
 
-pub returns-then-i-sum : goal.returns-then-i-sum
-returns-then-i-sum c = c.is_letter.ensures ∙ sym (begins c.args.sum.now c.args.i c.if-i-sum.true)
+pub returns : goal.returns
+returns c = begins_at c.args.sum.now c.args.i c.get.result c.is_some_and.result _ (c.get.ensures.lookup.4 (omega arith) 0) c.is_some_and.ensures (λ x q. search (rules, tests))

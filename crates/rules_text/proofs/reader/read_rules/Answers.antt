@@ -1,4 +1,5 @@
-use Rattle.std.proofs.Common.{◌≡◌, ◌+◌, ◌≤◌, ◌∷◌, length, Some, None, sym, ◌∙◌, arith}
+use Rattle.std.proofs.Common.{◌≡◌, ℕ, ◌+◌, ◌≤◌, ◌∷◌, length, Some, None, sym, ◌∙◌, subst, arith}
+use Rattle.std.proofs.lemmas.Bool.{leb-true}
 use Rattle.std.proofs.lemmas.Result.{err_from_is_err_and}
 use Rattle.formats.specs.NetText.{names, place_names}
 use Rattle.formats.specs.Words.{fields}
@@ -8,16 +9,20 @@ use Rattle.texts.proofs.Walking.{some_line}
 use Rattle.texts.proofs.Whole.{text_refused, text_passed}
 use Rattle.rules_text.specs.declared.rule.RulesText.{RulesText}
 use Rattle.rules_text.specs.Rules.{RulesSay}
+use Rattle.rules_text.proofs.Parts.{passed}
 use Rattle.rules_text.proofs.Whole.{opened_says, first_refused, first_passed, first_stands, first_fits, first_left, first_located, accepts, refuses, lines_refused}
 use Rattle.rules_text.proofs.reader.read_rules.Goals as goal
-use Rattle.rules_text.proofs.reader.read_rules.Goals.{In-Some, After-new}
+use Rattle.rules_text.proofs.reader.read_rules.Goals.{In_ok-check, In-Some, After-new}
+
+-- the net is not too large
+few : (c : In_ok-check) → length c.args.net.now.places ≤ 32
+few c = subst (λ (n : ℕ). n ≤ 32) c.place_count.ensures.value (leb-true c.place_count.result 32 (passed _ _ _ _ _ _ c.in_ok-check.ensures))
 
 pub returns-in_err-check_text : goal.returns-in_err-check_text
 returns-in_err-check_text c =
-    let p = err_from_is_err_and c.from_residual.result c.from_residual.ensures.1 in
+    let p = err_from_is_err_and c.from_residual-in_err-check_text.result c.from_residual-in_err-check_text.ensures.1 in
     let net = c.args.net.now in
-    let few : length net.places ≤ 32 = omega arith in
-    rw (p.1, p.2) (refuses net c.args.text.now few _ (text_refused (rules_reader (names net) (place_names net)) c.args.text.now _ c.in_err-check_text.ensures))
+    rw (p.1, p.2) (refuses net c.args.text.now (few (goal.at.returns-in_err-check_text c).In_ok-check) _ (text_refused (rules_reader (names net) (place_names net)) c.args.text.now _ c.in_err-check_text.ensures))
 
 -- the first line
 starts : (c : In-Some) → numbered_lines c.args.text.now ≡ (c.in-Some.at, c.in-Some.first.now) ∷ lines_left c.next.new.self
@@ -40,10 +45,10 @@ pub returns-in_err-fixed : goal.returns-in_err-fixed
 returns-in_err-fixed c =
     let p = err_from_is_err_and c.from_residual-in_err-fixed.result c.from_residual-in_err-fixed.ensures.1 in
     let net = c.args.net.now in
-    let few : length net.places ≤ 32 = omega arith in
+    let few_places = few (goal.at.returns-in_err-fixed c).In_ok-check in
     let t = text_passed (rules_reader (names net) (place_names net)) c.args.text.now c.in_ok-check_text.ensures in
     rw (p.1, p.2)
-    (refuses net c.args.text.now few _
+    (refuses net c.args.text.now few_places _
     (t.1 ∙ first_refused (names net) (place_names net) c.args.text.now t.0.2 c.in-Some.at c.in-Some.first.now (lines_left c.next.new.self) (starts (goal.at.returns-in_err-fixed c).In-Some) _ c.in_err-fixed.ensures))
 
 -- the rules of which only the fixed one is read
@@ -82,14 +87,14 @@ pub returns-in_err-read_lines : goal.returns-in_err-read_lines
 returns-in_err-read_lines c =
     let p = err_from_is_err_and c.from_residual-in_err-read_lines.result c.from_residual-in_err-read_lines.ensures.1 in
     let net = c.args.net.now in
-    let few : length net.places ≤ 32 = omega arith in
+    let few_places = few (goal.at.returns-in_err-read_lines c).In_ok-check in
     let new = (goal.at.returns-in_err-read_lines c).After-new in
-    rw (p.1, p.2) (lines_refused net c.args.text.now few _ _ _ (comes new) (c.in_err-read_lines.ensures.answer _ (says new).0))
+    rw (p.1, p.2) (lines_refused net c.args.text.now few_places _ _ _ (comes new) (c.in_err-read_lines.ensures.answer _ (says new).0))
 
 pub returns : goal.returns
 returns c =
     let net = c.args.net.now in
-    let few : length net.places ≤ 32 = omega arith in
+    let few_places = few (goal.at.returns c).In_ok-check in
     let new = (goal.at.returns c).After-new in
     let a = c.in_ok-read_lines.ensures.answer _ (says new).0 in
-    accepts net c.args.text.now few _ a.0 (comes new ∙ a.1) a.2 c.in_ok-read_lines.ensures.located
+    accepts net c.args.text.now few_places _ a.0 (comes new ∙ a.1) a.2 c.in_ok-read_lines.ensures.located

@@ -1,7 +1,6 @@
-use Rattle.std.proofs.Common.{length, sym, ◌∙◌, arith}
-use Rattle.std.proofs.lemmas.Bool.{eqb-false}
-use Rattle.texts.proofs.Lining.{text_at}
+use Rattle.std.proofs.Common.{refl, ◌∙◌, arith}
+use Rattle.texts.proofs.Lining.{text_ended}
 use Rattle.texts.proofs.lines.is_text.Goals as goal
 
-pub returns : goal.returns
-returns c = let some = eqb-false (length c.args.text.now) 0 (sym c.if-is_empty.ensures) in c.is_newline.ensures ∙ text_at c.args.text.now (omega arith) (omega arith)
+pub returns-then-text-le-MOST_BYTES : goal.returns-then-text-le-MOST_BYTES
+returns-then-text-le-MOST_BYTES c = c.eq.ensures ∙ text_ended c.args.text.now c.last.result _ refl c.last.ensures.value (omega arith)
