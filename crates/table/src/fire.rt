@@ -74,7 +74,10 @@ impl Net for Table {
     }
 
     fn controllable(&self, t: usize) -> bool {
-        t < self.moves && self.controllable[t]
+        self.controllable[..self.moves]
+            .get(t)
+            .copied()
+            .unwrap_or(false)
     }
 
     fn take(&self, p: usize, t: usize) -> u32 {
