@@ -2,6 +2,9 @@
 ghost use Rattle.std.specs.Prelude.{◌≡◌, ℕ, ◌^◌, ◌<◌, ◌≤◌, if◌then◌else◌, ◌==◌, nat_eq};
 ghost use Rattle.bank.specs.Banks.{bit};
 
+// Kept: each function requires `p < 32`, since the shift asks it: a struct of a bit's number with that as a ghost field would have to
+// be made before each call, where the same is asked.
+
 // The bit `p` of `w`.
 pub fn bit_at(w: u32, p: usize) -> u32
     requires { p < 32 }

@@ -13,6 +13,9 @@ use plant::net::Net;
 use plant::plant::Plant;
 
 impl Bank {
+    // Kept: `taken`, `given` and `returned`, one line each, have a call of the model each in `requires` and `after`: one function would
+    // take which call is meant and name all three in its contract. `inside` is what the bank asks of any tokens that are stored in it.
+
     // The tokens once the move `t` has begun.
     fn taken(&self, t: usize) -> u32
         requires { accepted (begin_answer (net_of self.now) (tokens_of self.now) t) ≡ true }
@@ -58,6 +61,8 @@ impl Plant for Bank {
         }
     }
 
+    // Kept: this and `over_by_take` differ in a `!`. One `place_where(t, set)` for both would have two clauses, what it finds where the
+    // bit is set and what it finds where it is not, and each of the two would still be there with a call of one line.
     fn short_place(&self, t: usize) -> Option<usize> {
         (t < self.count && !has_bit(self.tokens, t)).then_some(t)
     }
@@ -71,7 +76,8 @@ impl Plant for Bank {
         (t < self.count && has_bit(self.tokens, t)).then_some(t)
     }
 
-    // Kept: a shared `self.fire(self.may_begin(t), self.taken(t))` would ask `taken` of a move that may not begin.
+    // Kept: this call and the next two, the same in `bank` and in `table`. To provide them, `Plant` would need a method that moves the
+    // tokens of `t` unasked: public as the trait is, with a `requires` that the move may begin, and no public function may have one.
     fn begin(&mut self, t: usize) -> Result<(), Fault> {
         self.may_begin(t)?;
         self.tokens = self.taken(t);

@@ -39,23 +39,15 @@ impl Net for Bank {
     }
 
     fn take(&self, p: usize, t: usize) -> u32 {
-        if p < self.count && t < self.count && p == t {
-            1
-        } else {
-            0
-        }
+        u32::from(p < self.count && t < self.count && p == t)
     }
 
     fn give(&self, p: usize, t: usize) -> u32 {
-        if p < self.count && t < self.count && p == next_place(t) {
-            1
-        } else {
-            0
-        }
+        u32::from(p < self.count && t < self.count && p == next_place(t))
     }
 
     fn limit(&self, p: usize) -> u32 {
-        if p < self.count { 1 } else { 0 }
+        u32::from(p < self.count)
     }
 
     fn layer(&self, _p: usize) -> usize {

@@ -15,14 +15,18 @@ impl Line {
     fn is_empty(&self, p: usize) -> bool
         ensures { result ≡ (nat_lt p self.now.count && (slot self.now.slots p).tokens == 0) }
     {
-        p < self.count && self.slots[p].tokens == 0
+        self.slots[..self.count]
+            .get(p)
+            .is_some_and(|slot| slot.tokens == 0)
     }
 
     // Whether the line has the place `p`, at its limit.
     fn is_full(&self, p: usize) -> bool
         ensures { result ≡ (nat_lt p self.now.count && (slot self.now.slots p).tokens == (slot self.now.slots p).limit) }
     {
-        p < self.count && self.slots[p].tokens == self.slots[p].limit
+        self.slots[..self.count]
+            .get(p)
+            .is_some_and(|slot| slot.tokens == slot.limit)
     }
 }
 
@@ -46,15 +50,18 @@ impl Net for Line {
     }
 
     fn controllable(&self, t: usize) -> bool {
-        t <= self.count && self.controllable[t]
+        self.controllable[..self.moves()]
+            .get(t)
+            .copied()
+            .unwrap_or(false)
     }
 
     fn take(&self, p: usize, t: usize) -> u32 {
-        if p < self.count && p + 1 == t { 1 } else { 0 }
+        u32::from(p < self.count && p + 1 == t)
     }
 
     fn give(&self, p: usize, t: usize) -> u32 {
-        if p < self.count && p == t { 1 } else { 0 }
+        u32::from(p < self.count && p == t)
     }
 
     fn limit(&self, p: usize) -> u32 {

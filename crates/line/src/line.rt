@@ -10,6 +10,8 @@ use model::sizes::MOST_MOVES;
 pub const PLACES: usize = MOST_MOVES - 1;
 
 // The first `count` places and `count + 1` moves are the line's; the rest of each array is spare.
+// Kept: a count beside two arrays of fixed size. A `Vec` would take an allocator, so that `make` would have one more argument and could
+// fail for want of memory, which it cannot now.
 #[derive(Drop)]
 pub struct Line {
     pub(crate) count: usize,

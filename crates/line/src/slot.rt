@@ -25,7 +25,10 @@ impl Slot {
             tokens: place.tokens,
         }
     }
+
     // Takes one token.
+    // Kept: this and `raise` differ in the sign, and so in what they require: one `change(by: i32)` would require both, each where it
+    // applies, and make signed numbers of the tokens and back.
     pub(crate) fn lower(&mut self)
         requires { 1 ≤ self.old.tokens }
         ensures { self.new ≡ record { limit = self.old.limit; tokens = self.old.tokens - 1 } }

@@ -10,9 +10,8 @@ use Rattle.model.specs.Rule.{Worked, raise, positive}
 use Rattle.model.specs.Working.{divisor, rising, falls}
 use Rattle.model.proofs.Sums.{abs_mul_le}
 use Rattle.model.proofs.Checks.{lowest_some}
-use Rattle.rules.specs.declared.round.Absorption.{Absorption}
 use Rattle.rules.specs.Divisors.{GreatestDivisor}
-use Rattle.rules.specs.Rounding.{absorption_of, Modest, RoundAt}
+use Rattle.rules.specs.Rounding.{Change, absorption_of, Modest, RoundAt}
 use Rattle.rules.proofs.Remainders.{greatest_some, greatest_is}
 use Rattle.rules.proofs.Terms.{most_term, product_fits, incidence_small, sum_small}
 
@@ -98,7 +97,7 @@ module _ {n : Net} (s : Ranges n) {w : Worked} (weights : (p : ℕ) → nat_abs 
     addend_is : to_z w32 (a / h) ≡ pos (positive (raise n w.weight t) / divisor (n.take p t - n.give p t) (positive (raise n w.weight t)) (n.take p t - n.give p t))
     addend_is = coded (a / h) (most_places * most_term) addend_low (omega arith) ∙ ap₂ (λ i j. pos (i / j)) k.a_is h_is
 
-    pub round_is : ◌≡◌ {A = Absorption} (record { place = p; factor = to_z w32 (e / h); addend = to_z w32 (a / h) }) (absorption_of n w t p)
+    pub round_is : ◌≡◌ {A = Change} (record { place = p; factor = to_z w32 (e / h); addend = to_z w32 (a / h) }) (absorption_of n w t p)
     round_is = λ i. record { place = p; factor = factor_is i; addend = addend_is i }
 
     pub round_modest : Modest (record { place = p; factor = to_z w32 (e / h); addend = to_z w32 (a / h) })

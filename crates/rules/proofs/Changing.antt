@@ -10,15 +10,14 @@ use Rattle.model.specs.Plant.{setting_fault, refuse_unless}
 use Rattle.model.specs.Rule.{Worked, in_range}
 use Rattle.model.specs.Working.{changed, fits}
 use Rattle.model.proofs.Working.{range_weights, range_bound}
-use Rattle.rules.specs.declared.round.Absorption.{Absorption}
-use Rattle.rules.specs.Rounding.{absorption_of, after_round, RoundAt}
+use Rattle.rules.specs.Rounding.{Change, absorption_of, after_round, RoundAt}
 use Rattle.rules.proofs.Absorbing.{place_in}
 use Rattle.rules.proofs.Testing.{refused_unless}
 
 -- no place beyond the ground places comes to weigh
 pub changed_on_ground : {n : Net} {w : Worked} {t p : ℕ} → RoundAt n w t p → (q : ℕ) → n.ground_places ≤ q → (changed n w t p).weight q ≡ pos 0
 changed_on_ground {n} {w} {t} {p} due q l =
-    let x : Absorption = absorption_of n w t p in
+    let x : Change = absorption_of n w t p in
     let other : eqb q p ≡ false = ne_eqb q p (λ e. omega (arith, place_in due)) in
     ap₂ (λ z b. x.factor *ℤ z +ℤ cond b x.addend (pos 0)) (due.on_ground q l) other ∙ none x.factor
   where
@@ -27,14 +26,14 @@ changed_on_ground {n} {w} {t} {p} due q l =
 
 -- as the code has them: ws and b are the weights and the bound after the round, and fit says whether they are small
 pub record Outcome (n : Net) (w : Worked) (t p : ℕ) (ws : List ℤ) (b : ℤ) (fit : Bool) : Type 0 where
-  pub round : Absorption
+  pub round : Change
   pub round_is : round ≡ absorption_of n w t p
   pub ws_are : (q : ℕ) → get_or ws q (pos 0) ≡ round.factor *ℤ w.weight q +ℤ cond (eqb q round.place) round.addend (pos 0)
   pub b_is : b ≡ round.factor *ℤ (w.bound +ℤ pos 1) -ℤ pos 1
   pub fit_is : fit ≡ in_range most_worked_weight most_worked_bound n (λ q. get_or ws q (pos 0)) b
 
 -- r is the bound before it is stored
-pub outcome : (n : Net) (w : Worked) (t p : ℕ) (x : Absorption) → x ≡ absorption_of n w t p
+pub outcome : (n : Net) (w : Worked) (t p : ℕ) (x : Change) → x ≡ absorption_of n w t p
     → (ws : List ℤ) → ((q : ℕ) → get_or ws q (pos 0) ≡ x.factor *ℤ w.weight q +ℤ cond (eqb q x.place) x.addend (pos 0))
     → (r : ℤ) → SFits w32 r → r ≡ x.factor *ℤ (w.bound +ℤ pos 1) -ℤ pos 1
     → (fit : Bool) → fit ≡ in_range most_worked_weight most_worked_bound n (λ q. get_or ws q (pos 0)) (to_z w32 (of_z w32 r))

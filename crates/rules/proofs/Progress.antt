@@ -1,6 +1,7 @@
 -- The loop over the rounds: what is left to do gives what working the typed rule gives.
-use Rattle.std.proofs.Common.{◌≡◌, ℕ, zero, suc, ◌+◌, ◌-◌, ◌<◌, ◌≤◌, Bool, true, false, cond, Some, None, Ok, Err, Option, Result, sym, refl, ap, ◌∙◌, subst, arith}
+use Rattle.std.proofs.Common.{◌≡◌, ℕ, zero, suc, ◌+◌, ◌-◌, ◌<◌, ◌≤◌, Bool, true, false, not, cond, Some, None, Ok, Err, Option, Result, sym, refl, ap, ◌∙◌, subst, arith}
 use Rattle.std.proofs.lemmas.Bool.{cond-true, cond-false}
+use Rattle.std.specs.Option.{ok_or, is_some}
 use Rattle.model.specs.declared.refusal.Refusal.TheVariants.{NotTyped, NotAbsorbed, TooLarge, TooManyRounds}
 use Rattle.model.specs.declared.fault.Fault.{Fault}
 use Rattle.model.specs.Sizes.{most_rounds}
@@ -40,6 +41,23 @@ search_some n None r e = let z : ◌≡◌ {A = ℕ} 0 1 = cc in absurd (omega a
 search_some n (Some t) r e =
     let k : r ≡ record { transition = t; absorber = lowest (falls n t) 0 n.ground_places } = cc in
     (ap Some (sym (ap (λ x. x.transition) k)), ap (λ x. lowest (falls n x.transition) 0 n.ground_places) k ∙ sym (ap (λ x. x.absorber) k))
+
+-- ---- what an `Option` holds
+pub some_place : (m : Option ℕ) (f : Fault) (p : ℕ) → Ok p ≡ ok_or m f → m ≡ Some p
+some_place None f p e = let z : ◌≡◌ {A = ℕ} 0 1 = cc in absurd (omega arith)
+some_place (Some q) f p e = let k : q ≡ p = cc in ap Some k
+
+pub no_place : (m : Option ℕ) (f h : Fault) → Err h ≡ ok_or m f → (m ≡ None) × (h ≡ f)
+no_place None f h e = (refl, cc)
+no_place (Some q) f h e = let z : ◌≡◌ {A = ℕ} 0 1 = cc in absurd (omega arith)
+
+pub none_left : (o : Option Rising) (b : Bool) → is_some o ≡ not b → b ≡ true → o ≡ None
+none_left None b e k = refl
+none_left (Some r) b e k = let h : true ≡ false = e ∙ ap not k in let z : ◌≡◌ {A = ℕ} 0 1 = cc in absurd (omega arith)
+
+pub one_left : (o : Option Rising) (b : Bool) → is_some o ≡ not b → b ≡ false → (r : Rising) × (o ≡ Some r)
+one_left None b e k = let h : false ≡ true = e ∙ ap not k in let z : ◌≡◌ {A = ℕ} 0 1 = cc in absurd (omega arith)
+one_left (Some r) b e k = (r, refl)
 
 -- ---- the turns
 -- after i rounds the rule is w

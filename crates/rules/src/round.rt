@@ -15,17 +15,17 @@ use plant::net::Net;
 // What a round does: every weight is multiplied by the factor, then the addend is added to the weight of the place.
 #[derive(Clone, Copy)]
 pub struct Absorption {
-    pub place: usize,
-    pub factor: i32,
-    pub addend: i32,
+    place: usize,
+    factor: i32,
+    addend: i32,
+    ghost modest: { Modest (record { place = place; factor = factor; addend = addend }) },
 }
 
 impl WorkedRule {
     // The round for the move `t`, which raises the rule, and the place `p`, of which it takes more than it gives.
     fn absorption<N: Net>(&self, net: &N, t: usize, p: usize) -> Absorption
         requires { RoundAt (N.Net.net net.now) (worked_of self.now) t p }
-        ensures value { result ≡ absorption_of (N.Net.net net.now) (worked_of self.now) t p }
-        ensures modest { Modest result }
+        ensures { absorption_of (N.Net.net net.now) (worked_of self.now) t p ≡ record { place = result.place; factor = result.factor; addend = result.addend } }
     {
         let raise = self.raise(net, t) as u32;
         let fall = net.take(p, t) - net.give(p, t);
@@ -47,7 +47,6 @@ impl WorkedRule {
 
     // The weights after the round.
     fn absorbed_weights(&self, absorption: Absorption) -> [i32; MOST_PLACES]
-        requires { Modest absorption }
         ensures { (p : ℕ) → slice_index_or result p (pos 0) ≡ absorption.factor *ℤ (worked_of self.now).weight p +ℤ (if nat_eq p absorption.place then absorption.addend else pos 0) }
     {
         let mut weights = self.scaled(absorption.factor);
@@ -57,7 +56,6 @@ impl WorkedRule {
 
     // The bound after the round.
     fn absorbed_bound(&self, absorption: Absorption) -> i32
-        requires { Modest absorption }
         ensures { result ≡ absorption.factor *ℤ ((worked_of self.now).bound +ℤ pos 1) -ℤ pos 1 }
     {
         absorption.factor * (self.bound + 1) - 1

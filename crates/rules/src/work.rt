@@ -34,13 +34,11 @@ pub fn work<N: Net>(net: &N, typed: &TypedRule) -> Result<WorkedRule, Fault>
         let Some(rising) = rule.rising(net) else {
             return Ok(rule);
         };
-        let Some(place) = rising.absorber else {
-            return Err(Fault::of_setting(Refusal::NotAbsorbed));
-        };
+        let place = rising
+            .absorber
+            .ok_or(Fault::of_setting(Refusal::NotAbsorbed))?;
         rule = rule.after_round(net, rising.transition, place)?;
     }
-    match rule.rising(net) {
-        None => Ok(rule),
-        Some(_) => Err(Fault::of_setting(Refusal::TooManyRounds)),
-    }
+    Fault::of_setting(Refusal::TooManyRounds).unless(rule.rising(net).is_none())?;
+    Ok(rule)
 }

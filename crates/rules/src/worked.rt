@@ -5,7 +5,8 @@ ghost use Rattle.model.specs.Sizes.{most_worked_weight, most_worked_bound, most_
 use model::sizes::MOST_PLACES;
 
 // The rule L'·m ≤ b' that a typed rule was worked to, and how many rounds changed it.
-// Kept: beside `TypedRule`, which any numbers may go in, since these are closed and small.
+// Kept: no `rule: TypedRule` in place of the first two fields: these numbers are worked and no longer typed, so the field would be named
+// for what it is not, and the five reads of them and two of the facts below would each say `rule.` besides.
 #[derive(Clone, Copy)]
 pub struct WorkedRule {
     pub(crate) weights: [i32; MOST_PLACES],

@@ -26,6 +26,9 @@ impl Table {
         }
     }
 
+    // Kept: `taken`, `given` and `returned`, one line each, have a call of the model each in their contracts. One function would take the
+    // method of `Cell` as a closure, with clauses on what it may be asked and what it answers. `held` is what the table asks of its tokens.
+
     // The tokens once the move `t` has begun.
     fn taken(&self, t: usize) -> [u32; MOST_PLACES]
         requires { begin_answer (net_of self.now) (tokens_of self.now) t ≡ Ok tt }
@@ -74,7 +77,10 @@ impl Net for Table {
     }
 
     fn controllable(&self, t: usize) -> bool {
-        t < self.moves && self.controllable[t]
+        self.controllable[..self.moves]
+            .get(t)
+            .copied()
+            .unwrap_or(false)
     }
 
     fn take(&self, p: usize, t: usize) -> u32 {
@@ -111,7 +117,8 @@ impl Plant for Table {
         self.tokens[..self.places].get(p).copied().unwrap_or(0)
     }
 
-    // Kept: a shared `self.fire(self.may_begin(t), self.taken(t))` would ask `taken` of a move that may not begin.
+    // Kept: this call and the next two, the same in `bank` and in `table`. To provide them, `Plant` would need a method that moves the
+    // tokens of `t` unasked: public as the trait is, with a `requires` that the move may begin, and no public function may have one.
     fn begin(&mut self, t: usize) -> Result<(), Fault> {
         self.may_begin(t)?;
         self.tokens = self.taken(t);

@@ -6,6 +6,8 @@ ghost use Rattle.table.specs.Cells.{none, cell};
 use crate::cell::Cell;
 use model::sizes::{MOST_MOVES, MOST_PLACES};
 
+// Kept: two counts beside arrays of fixed size. A `Vec` would take an allocator, so that `make` would have one more argument and could
+// fail for want of memory, which it cannot now.
 #[derive(Drop)]
 pub struct Table {
     pub(crate) places: usize,
@@ -13,7 +15,8 @@ pub struct Table {
     pub(crate) controllable: [bool; MOST_MOVES],
     // the arc of each place, move by move
     pub(crate) arcs: [[Cell; MOST_PLACES]; MOST_MOVES],
-    // Kept: a call makes all tokens anew and leaves the limits, which one array of both would copy in each call.
+    // Kept: a call makes its tokens by one `from_fn` and leaves the limits. Over an array of both it would make the limits anew too, with
+    // a clause that they are as before; a loop over `iter_mut` would need an invariant in each call: which slots are changed so far.
     pub(crate) limits: [u32; MOST_PLACES],
     pub(crate) tokens: [u32; MOST_PLACES],
     ghost some_places: { 1 ≤ places },

@@ -1,7 +1,9 @@
-use Rattle.std.proofs.Common.{◌≡◌, Ok, Err}
+use Rattle.std.proofs.Common.{◌≡◌, Ok, Err, sym, ◌∙◌}
 use Rattle.std.proofs.lemmas.Result.{err_from_is_err_and}
 use Rattle.rules.specs.Rules.{rule_of, worked_of}
-use Rattle.rules.proofs.Progress.{works, refused_first, progress_first, worked_now, stuck_now, round_due, large_now, round_on, endless_now}
+use Rattle.model.proofs.Checks.{refuse_unless_ok}
+use Rattle.rules.proofs.Testing.{refused_unless}
+use Rattle.rules.proofs.Progress.{works, refused_first, progress_first, some_place, no_place, none_left, one_left, worked_now, stuck_now, round_due, large_now, round_on, endless_now}
 use Rattle.rules.proofs.work.work.Goals as goal
 
 pub returns-in_err-rule : goal.returns-in_err-rule
@@ -25,19 +27,24 @@ returns-in_default g c =
     let w = worked_of c.rounds.rule in
     works n typed (Ok w) (worked_now n typed w c.rounds.counter c.rounds.invariant c.in_default.ensures)
 
-pub returns-in_default-absorber : goal.returns-in_default-absorber
-returns-in_default-absorber g c =
+pub returns-in_err-place : goal.returns-in_err-place
+returns-in_err-place g c =
     let n = g.N.Net.net c.args.net.now in
     let typed = rule_of c.args.typed.now in
     let w = worked_of c.rounds.rule in
-    works n typed (Err c.of_setting.result) (stuck_now n typed w c.rounds.counter c.rounds.invariant c.rounds-test.true c.in-Some.rising c.in-Some.ensures c.of_setting.result c.in_default-absorber.is c.of_setting.ensures)
+    let f = c.in_err-place.field-0.0 in
+    let p = err_from_is_err_and {Q = λ y. y ≡ f} c.from_residual-in_err-place.result c.from_residual-in_err-place.ensures.1 in
+    let k = no_place c.in-Some.rising.absorber c.of_setting.result f c.in_err-place.ensures.value in
+    rw (p.1, p.2)
+    (works n typed (Err f) (stuck_now n typed w c.rounds.counter c.rounds.invariant c.rounds-test.true c.in-Some.rising c.in-Some.ensures f k.0 (k.1 ∙ c.of_setting.ensures)))
 
 pub after_round-requires : goal.after_round-requires
 after_round-requires g c =
     let n = g.N.Net.net c.args.net.now in
     let typed = rule_of c.args.typed.now in
     let w = worked_of c.rounds.rule in
-    round_due n typed w c.rounds.counter c.rounds.invariant c.rounds-test.true c.in-Some.rising c.in-Some.ensures c.in-Some-absorber.place c.in-Some-absorber.is
+    round_due n typed w c.rounds.counter c.rounds.invariant c.rounds-test.true c.in-Some.rising c.in-Some.ensures c.in_ok-place.place
+    (some_place c.in-Some.rising.absorber c.of_setting.result c.in_ok-place.place c.in_ok-place.ensures.value)
 
 pub returns-in_err-rule-2 : goal.returns-in_err-rule-2
 returns-in_err-rule-2 g c =
@@ -47,26 +54,33 @@ returns-in_err-rule-2 g c =
     let f = c.in_err-rule-2.field-0.0 in
     let p = err_from_is_err_and {Q = λ y. y ≡ f} c.from_residual-in_err-rule-2.result c.from_residual-in_err-rule-2.ensures.1 in
     rw (p.1, p.2)
-    (works n typed (Err f) (large_now n typed w c.rounds.counter c.rounds.invariant c.rounds-test.true c.in-Some.rising c.in-Some.ensures c.in-Some-absorber.place c.in-Some-absorber.is f c.in_err-rule-2.ensures))
+    (works n typed (Err f) (large_now n typed w c.rounds.counter c.rounds.invariant c.rounds-test.true c.in-Some.rising c.in-Some.ensures c.in_ok-place.place
+    (some_place c.in-Some.rising.absorber c.of_setting.result c.in_ok-place.place c.in_ok-place.ensures.value) f c.in_err-rule-2.ensures))
 
 pub rounds-preserved : goal.rounds-preserved
 rounds-preserved g c =
     let n = g.N.Net.net c.args.net.now in
     let typed = rule_of c.args.typed.now in
     let w = worked_of c.rounds.rule in
-    round_on n typed w c.rounds.counter c.rounds.invariant c.rounds-test.true c.in-Some.rising c.in-Some.ensures c.in-Some-absorber.place c.in-Some-absorber.is
-    (worked_of c.in_ok-rule-2.rule) c.in_ok-rule-2.ensures
+    round_on n typed w c.rounds.counter c.rounds.invariant c.rounds-test.true c.in-Some.rising c.in-Some.ensures c.in_ok-place.place
+    (some_place c.in-Some.rising.absorber c.of_setting.result c.in_ok-place.place c.in_ok-place.ensures.value) (worked_of c.in_ok-rule-2.rule) c.in_ok-rule-2.ensures
 
-pub returns-in-None : goal.returns-in-None
-returns-in-None g c =
+pub returns-in_err-unless : goal.returns-in_err-unless
+returns-in_err-unless g c =
     let n = g.N.Net.net c.args.net.now in
     let typed = rule_of c.args.typed.now in
     let w = worked_of c.rounds.rule in
-    works n typed (Ok w) (worked_now n typed w c.rounds.counter c.rounds.invariant c.in-None.ensures)
+    let f = c.in_err-unless.field-0.0 in
+    let p = err_from_is_err_and {Q = λ y. y ≡ f} c.from_residual-in_err-unless.result c.from_residual-in_err-unless.ensures.1 in
+    let k = refused_unless c.is_none.result c.of_setting-2.result f c.in_err-unless.ensures in
+    let r = one_left c.rising-2.result c.is_none.result c.is_none.ensures k.0 in
+    rw (p.1, p.2)
+    (works n typed (Err f) (endless_now n typed w c.rounds.counter c.rounds.invariant c.rounds-test.false r.0 f (sym r.1 ∙ c.rising-2.ensures) (k.1 ∙ c.of_setting-2.ensures)))
 
-pub returns-in-Some-rising : goal.returns-in-Some-rising
-returns-in-Some-rising g c =
+pub returns : goal.returns
+returns g c =
     let n = g.N.Net.net c.args.net.now in
     let typed = rule_of c.args.typed.now in
     let w = worked_of c.rounds.rule in
-    works n typed (Err c.of_setting-in-Some-rising.result) (endless_now n typed w c.rounds.counter c.rounds.invariant c.rounds-test.false c.in-Some-rising.field-0 c.of_setting-in-Some-rising.result c.in-Some-rising.ensures c.of_setting-in-Some-rising.ensures)
+    works n typed (Ok w) (worked_now n typed w c.rounds.counter c.rounds.invariant
+    (sym (none_left c.rising-2.result c.is_none.result c.is_none.ensures (refuse_unless_ok _ _ (sym c.in_ok-unless.ensures))) ∙ c.rising-2.ensures))

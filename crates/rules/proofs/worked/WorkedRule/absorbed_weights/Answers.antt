@@ -6,8 +6,8 @@ pub overflow_add-weights : goal.overflow_add-weights
 overflow_add-weights c =
     let x = c.args.absorption in
     let w = c.args.self.now in
-    weight_fits x.factor (get_or w.weights x.place (pos 0)) (get_or c.scaled-weights.result x.place (pos 0)) x.addend c.requires.factor_small (w.small_weights x.place)
-    (c.scaled-weights.ensures x.place ∙ ap (λ z. z *ℤ get_or w.weights x.place (pos 0)) (factor_kept x.factor c.requires.factor_small)) c.requires.addend_small
+    weight_fits x.factor (get_or w.weights x.place (pos 0)) (get_or c.scaled-weights.result x.place (pos 0)) x.addend x.modest.factor_small (w.small_weights x.place)
+    (c.scaled-weights.ensures x.place ∙ ap (λ z. z *ℤ get_or w.weights x.place (pos 0)) (factor_kept x.factor x.modest.factor_small)) x.modest.addend_small
 
 pub returns : goal.returns
 returns c =
@@ -16,6 +16,6 @@ returns c =
     let s = c.scaled-weights.result in
     let size : length s ≡ 32 = search rules in
     one_added s x.place (to_z w32 (of_z w32 (to_z w32 (of_z w32 (get_or s x.place (pos 0))) +ℤ to_z w32 (of_z w32 x.addend)))) x.addend (λ p. x.factor *ℤ get_or w.weights p (pos 0)) (omega arith)
-    (λ p. c.scaled-weights.ensures p ∙ ap (λ z. z *ℤ get_or w.weights p (pos 0)) (factor_kept x.factor c.requires.factor_small))
-    (weight_is x.factor (get_or w.weights x.place (pos 0)) (get_or s x.place (pos 0)) x.addend c.requires.factor_small (w.small_weights x.place)
-    (c.scaled-weights.ensures x.place ∙ ap (λ z. z *ℤ get_or w.weights x.place (pos 0)) (factor_kept x.factor c.requires.factor_small)) c.requires.addend_small)
+    (λ p. c.scaled-weights.ensures p ∙ ap (λ z. z *ℤ get_or w.weights p (pos 0)) (factor_kept x.factor x.modest.factor_small))
+    (weight_is x.factor (get_or w.weights x.place (pos 0)) (get_or s x.place (pos 0)) x.addend x.modest.factor_small (w.small_weights x.place)
+    (c.scaled-weights.ensures x.place ∙ ap (λ z. z *ℤ get_or w.weights x.place (pos 0)) (factor_kept x.factor x.modest.factor_small)) x.modest.addend_small)

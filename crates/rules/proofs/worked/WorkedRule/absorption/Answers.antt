@@ -1,4 +1,4 @@
-use Rattle.std.proofs.Common.{◌-◌, nat_abs, ap₂, arith, w32, to_z, of_z}
+use Rattle.std.proofs.Common.{◌-◌, nat_abs, sym, ap₂, arith, w32, to_z, of_z}
 use Rattle.rules.specs.Rules.{worked_of}
 use Rattle.rules.proofs.Absorbing.{fall_some, cast_is, cast_fits, Reckoned, h_some, addend_fits, round_is, round_modest}
 use Rattle.rules.proofs.worked.WorkedRule.absorption.Given as given
@@ -27,8 +27,8 @@ nonzero_div-result-2 g c = h_some (g.met.N.Net.sound c.args.net.now) c.args.self
 pub overflow_cast-result-2 : goal.overflow_cast-result-2
 overflow_cast-result-2 g c = addend_fits (g.met.N.Net.sound c.args.net.now) c.args.self.now.small_weights c.requires (reckoned g c)
 
+pub invariant_of-result : goal.invariant_of-result
+invariant_of-result g c = record { modest = round_modest (g.met.N.Net.sound c.args.net.now) c.args.self.now.small_weights c.requires (reckoned g c) }
+
 pub returns : goal.returns
-returns g c = record {
-  value = round_is (g.met.N.Net.sound c.args.net.now) c.args.self.now.small_weights c.requires (reckoned g c);
-  modest = round_modest (g.met.N.Net.sound c.args.net.now) c.args.self.now.small_weights c.requires (reckoned g c);
-}
+returns g c = sym (round_is (g.met.N.Net.sound c.args.net.now) c.args.self.now.small_weights c.requires (reckoned g c.before))
