@@ -118,6 +118,7 @@ fn run_net(out: &mut Vec<u8>, said: &Said, orders: &[u8]) -> Result<(), AllocErr
 {
     let net = said.net;
     let net = net.net;
+    // Kept: three plants behind one trait, each of a type of its own: no one value could stand for what the three arms make.
     match net.kind {
         Kind::Net => run_made(out, said, table::make::make(net), orders),
         Kind::Bank => run_made(out, said, bank::making::make(net), orders),
