@@ -12,6 +12,8 @@ where
     requires undo { U.IsAlwaysCallable undo }
 {
     let mut passed: u64 = 0;
+    // Kept: in a chain, as `flat_map(..).filter(..).count()`, one closure would hold `&mut subject` and both calls, with a clause of
+    // its own that says that both may be made at each turn.
     for turn in 0..turns {
         let t = (turn % MOVES) as usize;
         for answer in [make(subject, t), undo(subject, t)] {

@@ -1,5 +1,5 @@
 // Lists of calls that move tokens, on any plant.
-use crate::show::{Told, print_tokens};
+use crate::show::{Tokens, Told};
 use model::fault::Fault;
 use plant::plant::Plant;
 use std::{fmt, io};
@@ -55,5 +55,5 @@ pub fn run_firings<P: Plant>(
     plant: &mut P,
     firings: &[Firing],
 ) -> io::Result<()> {
-    run_shown(rt, plant, firings, |p| print_tokens(rt, p))
+    run_shown(rt, plant, firings, |p| println!(rt; "{}", Tokens(p)))
 }

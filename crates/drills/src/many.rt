@@ -2,7 +2,7 @@
 use crate::nets::make_table;
 use crate::order::Order::{Cancel, Commit, Grant};
 use crate::order::run_orders;
-use crate::show::{Shown, print_ledger};
+use crate::show::{Shown, Standing};
 use ledger::ledger::Ledger;
 use plant::plant::Plant;
 use std::io;
@@ -19,7 +19,7 @@ fn grant_many<P: Plant>(rt: &HostRuntime, ledger: &mut Ledger<P>, count: u32) ->
         Some(i) => print!(rt; "grant 0: {i} passed before one was refused")?,
         None => print!(rt; "grant 0: {count} passed")?,
     }
-    print_ledger(rt, ledger, SHOWN)
+    println!(rt; "{}", Standing(ledger, SHOWN))
 }
 
 pub fn run(rt: &HostRuntime) -> io::Result<()> {

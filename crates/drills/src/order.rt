@@ -1,5 +1,5 @@
 // Orders to a ledger on any plant: its calls that take a move.
-use crate::show::{Shown, Told, print_ledger};
+use crate::show::{Shown, Standing, Told};
 use ledger::ledger::Ledger;
 use model::fault::Fault;
 use plant::plant::Plant;
@@ -57,8 +57,7 @@ pub fn run_orders<P: Plant>(
 ) -> io::Result<()> {
     for order in orders {
         let answer = order.make(ledger);
-        print!(rt; "{order}: {}", Told(answer))?;
-        print_ledger(rt, ledger, shown)?;
+        println!(rt; "{order}: {}{}", Told(answer), Standing(ledger, shown))?;
     }
     Ok(())
 }

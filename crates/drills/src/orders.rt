@@ -1,6 +1,6 @@
 // The calls of a cell, one by one and as a list: a board over a monitor over the zone, which holds at most two.
 use crate::nets::make_table;
-use crate::show::{Called, Shown, Told, print_ledger};
+use crate::show::{Called, Shown, Standing, Told};
 use crate::typing::typed;
 use layers::board::Board;
 use layers::monitor::Monitor;
@@ -41,8 +41,12 @@ pub fn run_calls<P: Plant>(
 ) -> io::Result<()> {
     for call in calls {
         let answer = ledger.make(call);
-        print!(rt; "{}: {}", Called(call), Told(answer))?;
-        print_ledger(rt, ledger, shown)?;
+        println!(rt;
+            "{}: {}{}",
+            Called(call),
+            Told(answer),
+            Standing(ledger, shown)
+        )?;
     }
     Ok(())
 }
@@ -78,8 +82,7 @@ fn run_list(rt: &HostRuntime) -> io::Result<()> {
     for answer in &answers {
         println!(rt; "{}", Told(*answer))?;
     }
-    print!(rt; "{} answers", answers.len())?;
-    print_ledger(rt, &ledger, SHOWN)
+    println!(rt; "{} answers{}", answers.len(), Standing(&ledger, SHOWN))
 }
 
 pub fn run(rt: &HostRuntime) -> io::Result<()> {

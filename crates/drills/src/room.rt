@@ -1,7 +1,7 @@
 // Room: a line of two places that hold one each, the first full.
 use crate::nets::make_line;
 use crate::order::Order::{self, Cancel, Commit, Grant, Report};
-use crate::show::{Shown, Told, print_ledger};
+use crate::show::{Shown, Standing, Told};
 use ledger::ledger::Ledger;
 use plant::plant::Plant;
 use std::io;
@@ -21,8 +21,12 @@ fn ask_and_run<P: Plant>(
     for order in orders {
         let asked = order.ask(ledger);
         let answer = order.make(ledger);
-        print!(rt; "{order}: {}, {}", Told(asked), Told(answer))?;
-        print_ledger(rt, ledger, SHOWN)?;
+        println!(rt;
+            "{order}: {}, {}{}",
+            Told(asked),
+            Told(answer),
+            Standing(ledger, SHOWN)
+        )?;
     }
     Ok(())
 }

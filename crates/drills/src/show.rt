@@ -5,7 +5,7 @@ use model::fault::Fault;
 use plant::net::Net;
 use plant::plant::Plant;
 use rules::typed::TypedRule;
-use std::{fmt, io};
+use std::fmt;
 
 // An answer: a refusal by its number, with its move and its place, and of a control place the layer and row too.
 #[derive(Drop)]
@@ -63,17 +63,36 @@ impl fmt::Display for Called<'_> {
 }
 
 // The tokens of all places, with a bar before those of each layer.
-pub fn print_tokens<P: Plant>(rt: &HostRuntime, plant: &P) -> io::Result<()> {
-    let mut layer = 0;
-    print!(rt; ";")?;
-    for p in 0..plant.places() {
-        if plant.layer(p) != layer {
-            layer = plant.layer(p);
-            print!(rt; " |")?;
+#[derive(Drop)]
+pub struct Tokens<'a, P>(pub &'a P);
+
+impl<P: Plant> fmt::Display for Tokens<'_, P> {
+    fn fmt<W: fmt::Write>(&self, f: &mut fmt::Formatter<W>) -> fmt::Result {
+        let mut layer = 0;
+        f.write_str(";")?;
+        for p in 0..self.0.places() {
+            if self.0.layer(p) != layer {
+                layer = self.0.layer(p);
+                f.write_str(" |")?;
+            }
+            write!(f, " {}", self.0.free(p))?;
         }
-        print!(rt; " {}", plant.free(p))?;
+        Ok(())
     }
-    println!(rt; "")
+}
+
+// The tokens of these places.
+#[derive(Drop)]
+pub struct TokensAt<'a, P>(pub &'a P, pub &'a [usize]);
+
+impl<P: Plant> fmt::Display for TokensAt<'_, P> {
+    fn fmt<W: fmt::Write>(&self, f: &mut fmt::Formatter<W>) -> fmt::Result {
+        f.write_str(";")?;
+        for p in self.1 {
+            write!(f, " {}", self.0.free(*p))?;
+        }
+        Ok(())
+    }
 }
 
 // How much of a ledger is shown: the first of its places, its ground places and its moves.
@@ -85,29 +104,30 @@ pub struct Shown {
 }
 
 // A heading, and the numbers at the first `count` indices.
-fn print_row<F: Fn(usize) -> u32>(
-    rt: &HostRuntime,
+fn write_row<W: fmt::Write, F: Fn(usize) -> u32>(
+    f: &mut fmt::Formatter<W>,
     heading: &str,
     count: usize,
     number: F,
-) -> io::Result<()>
+) -> fmt::Result
     requires { F.IsAlwaysCallable number }
 {
-    print!(rt; "; {heading}")?;
+    write!(f, "; {heading}")?;
     for i in 0..count {
-        print!(rt; " {}", number(i))?;
+        write!(f, " {}", number(i))?;
     }
     Ok(())
 }
 
-// The free tokens, the marking of the ground places and the open grants.
-pub fn print_ledger<P: Plant>(
-    rt: &HostRuntime,
-    ledger: &Ledger<P>,
-    shown: Shown,
-) -> io::Result<()> {
-    print_row(rt, "free", shown.places, |p| ledger.free(p))?;
-    print_row(rt, "marked", shown.ground_places, |p| ledger.marking(p))?;
-    print_row(rt, "open", shown.moves, |t| ledger.open(t))?;
-    println!(rt; "")
+// Of a ledger the free tokens, the marking of the ground places and the open grants.
+#[derive(Drop)]
+pub struct Standing<'a, P: Plant>(pub &'a Ledger<P>, pub Shown);
+
+impl<P: Plant> fmt::Display for Standing<'_, P> {
+    fn fmt<W: fmt::Write>(&self, f: &mut fmt::Formatter<W>) -> fmt::Result {
+        let Standing(ledger, shown) = self;
+        write_row(f, "free", shown.places, |p| ledger.free(p))?;
+        write_row(f, "marked", shown.ground_places, |p| ledger.marking(p))?;
+        write_row(f, "open", shown.moves, |t| ledger.open(t))
+    }
 }

@@ -3,6 +3,7 @@ use crate::firing::Firing::{self, Back, Begin, Finish};
 use crate::firing::run_shown;
 use crate::nets::{make_bank, make_line, make_table};
 use crate::setting::{set_monitor, set_row};
+use crate::show::TokensAt;
 use crate::typing::typed;
 use layers::board::Board;
 use layers::monitor::Monitor;
@@ -39,11 +40,7 @@ fn run_firings<P: Plant>(
     places: &[usize],
 ) -> io::Result<()> {
     run_shown(rt, plant, firings, |plant| {
-        print!(rt; ";")?;
-        for p in places {
-            print!(rt; " {}", plant.free(*p))?;
-        }
-        println!(rt; "")
+        println!(rt; "{}", TokensAt(plant, places))
     })
 }
 

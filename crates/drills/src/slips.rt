@@ -2,7 +2,7 @@
 use crate::order::Order::Report;
 use crate::order::run_orders;
 use crate::orders::{SHOWN, Zone, open_zone};
-use crate::show::{Told, print_ledger};
+use crate::show::{Standing, Told};
 use ledger::ledger::Ledger;
 use ledger::slip::Slip;
 use model::fault::Fault;
@@ -10,8 +10,7 @@ use plant::plant::Plant;
 use std::io;
 
 fn print_slip<P: Plant>(rt: &HostRuntime, ledger: &Ledger<P>, t: usize) -> io::Result<()> {
-    print!(rt; "a slip for {t}")?;
-    print_ledger(rt, ledger, SHOWN)
+    println!(rt; "a slip for {t}{}", Standing(ledger, SHOWN))
 }
 
 // What came of ending the grant by its number, if it was ended so.
@@ -23,8 +22,7 @@ fn print_before<P: Plant>(
     let Some(answer) = answer else {
         return Ok(());
     };
-    print!(rt; "ended before: {}", Told(answer))?;
-    print_ledger(rt, ledger, SHOWN)
+    println!(rt; "ended before: {}{}", Told(answer), Standing(ledger, SHOWN))
 }
 
 // For a grant that is not ended before its slip is given back.
@@ -63,7 +61,7 @@ where
         }
         Err(fault) => print!(rt; "{}", Told(Err(fault)))?,
     }
-    print_ledger(rt, zone, SHOWN)
+    println!(rt; "{}", Standing(zone, SHOWN))
 }
 
 pub fn run(rt: &HostRuntime) -> io::Result<()> {

@@ -3,7 +3,7 @@ use crate::firing::Firing::{self, Back, Begin, Finish};
 use crate::firing::run_firings;
 use crate::nets::{make_bank, make_line, make_table};
 use crate::setting::{set_monitor, set_row};
-use crate::show::print_tokens;
+use crate::show::Tokens;
 use crate::typing::typed;
 use layers::board::Board;
 use layers::monitor::Monitor;
@@ -20,12 +20,12 @@ fn stack<P: Plant + Drop>(
 ) -> io::Result<Monitor<Monitor<P>>> {
     let mut first = Monitor::new(plant);
     set_monitor(rt, &mut first, lower)?;
-    print_tokens(rt, &first)?;
+    println!(rt; "{}", Tokens(&first))?;
     set_monitor(rt, &mut first, upper)?;
-    print_tokens(rt, &first)?;
+    println!(rt; "{}", Tokens(&first))?;
     let mut second = Monitor::new(first);
     set_monitor(rt, &mut second, upper)?;
-    print_tokens(rt, &second)?;
+    println!(rt; "{}", Tokens(&second))?;
     Ok(second)
 }
 
@@ -36,7 +36,7 @@ fn set_rows<P: Plant>(
 ) -> io::Result<()> {
     for (r, rule) in rules {
         set_row(rt, board, *r, rule)?;
-        print_tokens(rt, board)?;
+        println!(rt; "{}", Tokens(board))?;
     }
     Ok(())
 }

@@ -3,7 +3,7 @@ use crate::firing::Firing::Begin;
 use crate::firing::run_firings;
 use crate::nets::{make_line, make_table};
 use crate::setting::{set_monitor, set_row};
-use crate::show::{Told, Written, print_tokens};
+use crate::show::{Tokens, Told, Written};
 use crate::typing::typed;
 use layers::board::Board;
 use layers::monitor::Monitor;
@@ -16,7 +16,7 @@ use std::io;
 fn try_rule<P: Plant + Drop>(rt: &HostRuntime, plant: P, rule: &TypedRule) -> io::Result<()> {
     let mut monitor = Monitor::new(plant);
     set_monitor(rt, &mut monitor, rule)?;
-    print_tokens(rt, &monitor)
+    println!(rt; "{}", Tokens(&monitor))
 }
 
 // Three on the rack: it may be asked that three stay, and not that four do.
@@ -25,7 +25,7 @@ fn run_board(rt: &HostRuntime) -> io::Result<()> {
     let mut board = Board::new(make_table(rt, "n1.net")?);
     for (r, bound) in [(0, -4), (0, -3), (0, -3), (12, -3), (11, -4)] {
         set_row(rt, &mut board, r, &typed(&[-1], bound))?;
-        print_tokens(rt, &board)?;
+        println!(rt; "{}", Tokens(&board))?;
     }
     run_firings(rt, &mut board, &[Begin(0)])
 }

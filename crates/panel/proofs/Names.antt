@@ -1,11 +1,19 @@
 -- A name looked up in two lists, one after the other.
-use Rattle.std.proofs.Common.{◌≡◌, ℕ, suc, ◌+◌, ◌<◌, ◌≤◌, Bool, true, false, cond, nat_lt, List, [], ◌∷◌, ◌++◌, length, Some, None, Option, get_or, slice_get, unwrap_or, Bor, sym, refl, ap, ◌∙◌, arith, length-append}
+use Rattle.std.proofs.Common.{◌≡◌, ℕ, zero, suc, ◌+◌, ◌<◌, ◌≤◌, Bool, true, false, cond, nat_lt, List, [], ◌∷◌, ◌++◌, length, Some, None, Option, get_or, slice_get, unwrap_or, Bor, sym, refl, ap, ◌∙◌, arith, length-append}
 use Rattle.std.proofs.lemmas.Option.{unwrap_or-slice_get}
 use Rattle.std.specs.Option.{option_map}
 use Rattle.std.specs.Str.{bytes_eq}
 use Rattle.std.proofs.lemmas.Bool.{cond-true, cond-false, lt-ltb, le-ltb, ltb-true, ltb-false}
 use Rattle.formats.specs.Words.{index_of}
 use Rattle.texts.specs.Spans.{found}
+use Rattle.rules_text.specs.declared.names.Rule.{Rule}
+use Rattle.rules_text.specs.declared.names.Rule.TheVariants.{Fixed, Row}
+use Rattle.rules_text.specs.Naming.{rule_at, rule_found}
+
+-- the place of a rule over so many ground places
+abbrev pub numbered : ℕ → Rule → ℕ
+numbered first Fixed = first
+numbered first (Row r) = first + 1 + r
 
 module _ (n : List ℕ) where
   index_first : (xs ys : List (List ℕ)) → index_of xs n < length xs → index_of (xs ++ ys) n ≡ index_of xs n
@@ -62,23 +70,14 @@ module _ (n : List ℕ) where
         let i : index_of (xs ++ ys) n ≡ length xs + index_of ys n = index_second xs ys (missing_says xs e) in
         missing_is (xs ++ ys) (omega (arith, length-append xs ys, missing_says ys f))
 
-  -- one name alone, and then others
-  pub found_here : (x : List ℕ) (xs : List (List ℕ)) → bytes_eq x n ≡ true → Some 0 ≡ found (x ∷ xs) n
-  found_here x xs e = found_is (x ∷ xs) 0 (cond-true _ _ _ e) (omega arith)
-
-  pub found_later : (x : List ℕ) (xs : List (List ℕ)) (p : ℕ) → bytes_eq x n ≡ false → Some p ≡ found xs n → Some (1 + p) ≡ found (x ∷ xs) n
-  found_later x xs p e f = let s = found_says xs p f in found_is (x ∷ xs) (1 + p) (cond-false _ _ _ e ∙ omega arith) (omega arith)
-
-  pub found_never : (x : List ℕ) (xs : List (List ℕ)) → bytes_eq x n ≡ false → None ≡ found xs n → None ≡ found (x ∷ xs) n
-  found_never x xs e f = let i : index_of (x ∷ xs) n ≡ suc (index_of xs n) = cond-false _ _ _ e in missing_is (x ∷ xs) (omega (arith, missing_says xs f))
-
-  -- in a list, then one name, then another list
-  pub found_last : (xs : List (List ℕ)) (x : List ℕ) (ys : List (List ℕ)) (first : ℕ) (o : Option ℕ) → None ≡ found xs n → bytes_eq x n ≡ false → first ≡ length xs → o ≡ found ys n
-      → option_map (λ r. first + 1 + r) o ≡ found (xs ++ (x ∷ ys)) n
-  found_last xs x ys first (Some r) before other f e =
-      let k : first + 1 + r ≡ length xs + (1 + r) = omega arith in
-      ap (λ (i : ℕ). Some i) k ∙ found_second xs (x ∷ ys) (1 + r) before (found_later x ys r other e)
-  found_last xs x ys first None before other f e = found_neither xs (x ∷ ys) before (found_never x ys other e)
+    -- a rule, whose name stands in the second list
+    pub found_rule : (first : ℕ) (o : Option Rule) → None ≡ found xs n → first ≡ length xs → o ≡ rule_found ys n → option_map (λ r. numbered first r) o ≡ found (xs ++ ys) n
+    found_rule first o before counted e = ap (λ (r : Option Rule). option_map (λ q. numbered first q) r) e ∙ go (found ys n) refl
+      where
+        go : (f : Option ℕ) → found ys n ≡ f → option_map (λ q. numbered first q) (option_map rule_at f) ≡ found (xs ++ ys) n
+        go None f = found_neither before (sym f)
+        go (Some zero) f = let k : first ≡ length xs + 0 = omega arith in ap (λ (i : ℕ). Some i) k ∙ found_second 0 before (sym f)
+        go (Some (suc r)) f = let k : first + 1 + r ≡ length xs + suc r = omega arith in ap (λ (i : ℕ). Some i) k ∙ found_second (suc r) before (sym f)
 
 -- the bytes of a name, or of what is printed where there is none
 pub now_of : (o : Option (Bor (List ℕ))) (none : Bor (List ℕ)) → (unwrap_or o none).now ≡ unwrap_or (option_map (λ x. x.now) o) none.now

@@ -22,7 +22,9 @@ fn put_answer(out: &mut Vec<u8>, said: &Said, answer: Result<(), Fault>) -> Resu
     match answer {
         Ok(()) => put_ok(out),
         Err(fault) => {
-            // Kept: `map(|t| said.move_name(t)).unwrap_or(NO_NAME)` is no plainer: a closure that gives a reference wants its own clause.
+            // Kept: `map_or(NO_NAME, |t| said.move_name(t))` was tried, and the borrow checker's part was not made, since the constant
+            // stands at another lifetime than the closure's name; with `map` and `unwrap_or`, which are as many lines, `returns-in-Err`
+            // stayed open.
             let transition = match fault.transition {
                 Some(t) => said.move_name(t),
                 None => NO_NAME,

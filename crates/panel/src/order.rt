@@ -16,6 +16,7 @@ use rules_text::rule::RuleLine;
 use texts::lines::cut;
 
 // What an order line asks for: a call of the ledger, or the free tokens of a place.
+// Kept: two orders, neither an error, so that `Result<Call, usize>` would say less; and a question is no `Call`, which the ledger makes.
 #[derive(Clone, Copy)]
 pub enum Order {
     Make(Call),
@@ -23,7 +24,8 @@ pub enum Order {
 }
 
 // The rule that a line types.
-// Kept: neither type is this crate's, so that `From` cannot be written here.
+// Kept: `From<&RuleLine> for TypedRule` cannot stand here, where neither type is of this crate, nor beside either type, since the crate
+// `rules_text` does not know the crate `rules`, nor that one it.
 pub(crate) fn typed(line: &RuleLine) -> TypedRule
     ensures { rule_of result ≡ line_rule line.now }
 {
@@ -63,10 +65,10 @@ fn by_word(said: &Said, word: &[u8], name: &[u8]) -> Result<Order, Refusal>
     ensures { order_said result ≡ Some (by_word (cell_said said.now) word.now name.now) }
 {
     match word {
-        b"grant" => Ok(Order::Make(Call::Grant(move_asked(said, name)?))),
-        b"commit" => Ok(Order::Make(Call::Commit(move_asked(said, name)?))),
-        b"cancel" => Ok(Order::Make(Call::Cancel(move_asked(said, name)?))),
-        b"report" => Ok(Order::Make(Call::Report(move_asked(said, name)?))),
+        b"grant" => move_asked(said, name).map(Call::Grant).map(Order::Make),
+        b"commit" => move_asked(said, name).map(Call::Commit).map(Order::Make),
+        b"cancel" => move_asked(said, name).map(Call::Cancel).map(Order::Make),
+        b"report" => move_asked(said, name).map(Call::Report).map(Order::Make),
         b"admit" => with_rule(said, name),
         b"show" => with_place(said, name),
         _ => Err(Refusal::NoRecord),

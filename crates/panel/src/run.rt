@@ -1,6 +1,5 @@
 // The run of a cell, from its three texts to what is printed.
 ghost use Rattle.std.specs.Prelude.{◌≡◌, ◌++◌, Ok, codes, MatchOption, IfOk, OnOk};
-ghost use Rattle.texts.specs.Lines.{text_check};
 ghost use Rattle.formats.specs.NetText.{NetText as NetSaid};
 ghost use Rattle.formats.specs.NetText.{names, place_names};
 ghost use Rattle.formats.specs.RulesText.{RulesText as RulesSaid};
@@ -10,8 +9,7 @@ ghost use Rattle.formats.specs.declared.fault.TextFault.{TextFault};
 ghost use Rattle.formats.specs.Texts.{Proper, fault, written};
 ghost use Rattle.net_text.specs.Nets.{net_of};
 ghost use Rattle.panel.specs.Prints.{bad_line};
-ghost use Rattle.model.specs.Layer.{monitor_answer};
-ghost use Rattle.panel.specs.Orders.{start_monitor, BuiltCell, Started, ran};
+ghost use Rattle.panel.specs.Orders.{Started, ran};
 ghost use Rattle.panel.specs.Cells.{cell_of};
 ghost use Rattle.panel.specs.Said.{cell_said};
 ghost use Rattle.panel.specs.Run.{by_rules, printed};
@@ -52,48 +50,8 @@ fn put_bad_fixed(out: &mut Vec<u8>, refusal: Refusal) -> Result<(), AllocError>
     put_bad(out, b"fixed", start.fault(refusal, 0))
 }
 
-// The orders, which have passed the checks of the whole text, on a plant: with a monitor for the fixed rule, a board for the others,
-// and a ledger on top. The pile that the ledger is opened on is one that can be built.
-fn run_checked<P: Plant + Drop>(
-    out: &mut Vec<u8>,
-    said: &Said,
-    plant: P,
-    orders: &[u8],
-) -> Result<(), AllocError>
-    requires net { P.Net.net plant ≡ (cell_said said.now).net }
-    requires tokens { P.Plant.tokens plant ≡ (cell_said said.now).free }
-    requires checked { Ok tt ≡ text_check orders.now }
-    ensures printed { OnOk result (out.new.items ≡ out.old.items ++ ran (cell_said said.now) orders.now) }
-    ensures built { Ok tt ≡ monitor_answer (start_monitor (cell_said said.now)) (cell_said said.now).typed_fixed → BuiltCell (cell_said said.now) }
-{
-    match build(plant, &typed(&said.rules.rules.fixed)) {
-        Ok(pile) => {
-            let mut ledger = Ledger::new(pile);
-            obey_all(out, said, &mut ledger, orders)
-        }
-        Err(fault) => put_bad_fixed(out, fault.refusal),
-    }
-}
-
-// The orders on a plant.
-fn run_plant<P: Plant + Drop>(
-    out: &mut Vec<u8>,
-    said: &Said,
-    plant: P,
-    orders: &[u8],
-) -> Result<(), AllocError>
-    requires net { P.Net.net plant ≡ (cell_said said.now).net }
-    requires tokens { P.Plant.tokens plant ≡ (cell_said said.now).free }
-    ensures printed { OnOk result (out.new.items ≡ out.old.items ++ ran (cell_said said.now) orders.now) }
-    ensures built { Started (cell_said said.now) orders.now }
-{
-    match check_text(orders) {
-        Ok(()) => run_checked(out, said, plant, orders),
-        Err(fault) => put_bad(out, b"orders", fault),
-    }
-}
-
-// The orders on a plant that was made.
+// The orders on a plant that was made: with a monitor for the fixed rule, a board for the others, and a ledger on top. The pile that
+// the ledger is opened on is one that can be built.
 fn run_made<P: Plant + Drop>(
     out: &mut Vec<u8>,
     said: &Said,
@@ -104,9 +62,16 @@ fn run_made<P: Plant + Drop>(
     ensures printed { OnOk result (out.new.items ≡ out.old.items ++ ran (cell_said said.now) orders.now) }
     ensures built { Started (cell_said said.now) orders.now }
 {
-    match made {
-        Some(plant) => run_plant(out, said, plant, orders),
-        None => unreachable!(),
+    let Some(plant) = made else { unreachable!() };
+    if let Err(fault) = check_text(orders) {
+        return put_bad(out, b"orders", fault);
+    }
+    match build(plant, &typed(&said.rules.rules.fixed)) {
+        Ok(pile) => {
+            let mut ledger = Ledger::new(pile);
+            obey_all(out, said, &mut ledger, orders)
+        }
+        Err(fault) => put_bad_fixed(out, fault.refusal),
     }
 }
 
@@ -118,6 +83,7 @@ fn run_net(out: &mut Vec<u8>, said: &Said, orders: &[u8]) -> Result<(), AllocErr
 {
     let net = said.net;
     let net = net.net;
+    // Kept: three plants behind one trait, each of a type of its own: no one value could stand for what the three arms make.
     match net.kind {
         Kind::Net => run_made(out, said, table::make::make(net), orders),
         Kind::Bank => run_made(out, said, bank::making::make(net), orders),

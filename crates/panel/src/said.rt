@@ -1,14 +1,13 @@
 // The texts of a cell as they were read, and the names in them.
 ghost use Rattle.std.specs.Prelude.{◌≡◌, ◌^◌, ◌<◌, length};
-ghost use Rattle.std.specs.Str.{bytes_eq};
 ghost use Rattle.texts.specs.Spans.{found};
 ghost use Rattle.panel.specs.Cells.{pile_names};
 ghost use Rattle.panel.specs.Orders.{name_at};
 ghost use Rattle.panel.specs.Said.{cell_said};
 
 use net_text::named_net::NamedNet;
-use rules_text::names::NamedRules;
-use texts::names::{find, part};
+use rules_text::names::{NamedRules, Rule};
+use texts::names::find;
 
 // The net and the rules, each with the text that its names are parts of.
 #[derive(Clone, Copy)]
@@ -50,13 +49,6 @@ impl<'a> Said<'a> {
         self.net.place_count()
     }
 
-    // Whether the fixed rule has that name.
-    fn names_fixed(&self, name: &[u8]) -> bool
-        ensures { result ≡ bytes_eq (cell_said self.now).fixed name.now }
-    {
-        part(self.rules.text, self.rules.rules.fixed.name) == name
-    }
-
     // The place of the pile that has that name: a ground place, or the place of a rule.
     pub(crate) fn place_named(&self, name: &[u8]) -> Option<usize>
         ensures { result ≡ found (pile_names (cell_said self.now)) name.now }
@@ -65,10 +57,10 @@ impl<'a> Said<'a> {
             return Some(p);
         }
         let first = self.ground_count();
-        if self.names_fixed(name) {
-            return Some(first);
-        }
-        self.rule_named(name).map(|r| first + 1 + r)
+        self.rules.find_rule(name).map(|rule| match rule {
+            Rule::Fixed => first,
+            Rule::Row(r) => first + 1 + r,
+        })
     }
 
     // The name of a place of the pile: a part of the net text for a ground place, of the rules text for the place of a rule.

@@ -2,26 +2,14 @@ use Rattle.std.proofs.Common.{codes, arith, rules}
 use Rattle.std.proofs.lemmas.Slice.Eq.{text_from_reads}
 use Rattle.panel.proofs.order.by_word.Goals as goal
 
-pub returns-in_ok-move_asked-in-grant : goal.returns-in_ok-move_asked-in-grant
-returns-in_ok-move_asked-in-grant c = rw (text_from_reads c.args.word.now (codes "grant") (omega arith) (search rules)) (search rules)
+pub returns-in-commit : goal.returns-in-commit
+returns-in-commit c = rw (text_from_reads c.args.word.now (codes "commit") (omega arith) (search rules)) (search rules)
 
-pub returns-in_ok-move_asked-in-commit : goal.returns-in_ok-move_asked-in-commit
-returns-in_ok-move_asked-in-commit c = rw (text_from_reads c.args.word.now (codes "commit") (omega arith) (search rules)) (search rules)
+pub returns-in-cancel : goal.returns-in-cancel
+returns-in-cancel c = rw (text_from_reads c.args.word.now (codes "cancel") (omega arith) (search rules)) (search rules)
 
-pub returns-in_err-move_asked-in-commit : goal.returns-in_err-move_asked-in-commit
-returns-in_err-move_asked-in-commit c = rw (text_from_reads c.args.word.now (codes "commit") (omega arith) (search rules)) (search rules)
-
-pub returns-in_ok-move_asked-in-cancel : goal.returns-in_ok-move_asked-in-cancel
-returns-in_ok-move_asked-in-cancel c = rw (text_from_reads c.args.word.now (codes "cancel") (omega arith) (search rules)) (search rules)
-
-pub returns-in_err-move_asked-in-cancel : goal.returns-in_err-move_asked-in-cancel
-returns-in_err-move_asked-in-cancel c = rw (text_from_reads c.args.word.now (codes "cancel") (omega arith) (search rules)) (search rules)
-
-pub returns-in_ok-move_asked-in-report : goal.returns-in_ok-move_asked-in-report
-returns-in_ok-move_asked-in-report c = rw (text_from_reads c.args.word.now (codes "report") (omega arith) (search rules)) (search rules)
-
-pub returns-in_err-move_asked-in-report : goal.returns-in_err-move_asked-in-report
-returns-in_err-move_asked-in-report c = rw (text_from_reads c.args.word.now (codes "report") (omega arith) (search rules)) (search rules)
+pub returns-in-report : goal.returns-in-report
+returns-in-report c = rw (text_from_reads c.args.word.now (codes "report") (omega arith) (search rules)) (search rules)
 
 pub returns-in-admit : goal.returns-in-admit
 returns-in-admit c = rw (text_from_reads c.args.word.now (codes "admit") (omega arith) (search rules)) (search rules)
