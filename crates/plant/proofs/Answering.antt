@@ -1,5 +1,5 @@
 -- What the three questions answer.
-use Rattle.std.proofs.Common.{◌≡◌, ℕ, ◌+◌, ◌<◌, ◌≤◌, Bool, true, false, ltb, Some, None, Ok, Err, Option, sym, refl, ap, ◌∙◌, arith}
+use Rattle.std.proofs.Common.{◌≡◌, ℕ, ◌+◌, ◌<◌, ◌≤◌, Bool, true, false, ltb, Some, None, Ok, Option, sym, refl, ap, ◌∙◌, arith}
 use Rattle.std.proofs.lemmas.Bool.{lt-ltb, ltb-true, ltb-false}
 use Rattle.model.specs.declared.refusal.Refusal.{Refusal}
 use Rattle.model.specs.Net.{Net}
@@ -10,13 +10,6 @@ use Rattle.plant.proofs.Lowest.{none_passes}
 -- the move is there: the next check answers
 pub asked : (n : Net) (t : ℕ) (a : Answer) → t < n.moves → (known n t else_by a) ≡ a
 asked n t a l = ap (λ (b : Bool). refuse_unless b (fault_of NoMove t) else_by a) (lt-ltb t n.moves l)
-
--- a fault at the lowest place, as the code makes it: l and r are the layer and the row that it read there
-pub refused_at : (n : Net) (why : Refusal) (t p l r : ℕ) (o : Option ℕ) → t < n.moves → o ≡ Some p → l ≡ n.layer p → r ≡ n.row p
-    → Err (record { refusal = why; transition = Some t; spot = Some (record { place = p; layer = l; row = r }) }) ≡ (known n t else_by refuse_at (fault_at n why t) o)
-refused_at n why t p l r o lt found e q =
-    (λ i. Err (record { refusal = why; transition = Some t; spot = Some (record { place = p; layer = e i; row = q i }) }))
-    ∙ sym (asked n t (refuse_at (fault_at n why t) o) lt ∙ ap (refuse_at (fault_at n why t)) found)
 
 -- no such place
 pub passed : (n : Net) (why : Refusal) (t : ℕ) (o : Option ℕ) → t < n.moves → o ≡ None → Ok tt ≡ (known n t else_by refuse_at (fault_at n why t) o)
