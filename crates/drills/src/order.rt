@@ -6,6 +6,7 @@ use model::fault::Fault;
 use plant::plant::Plant;
 use std::{fmt, io};
 
+// Kept: `Call` of the ledger has `Admit` besides, and is made on a ledger over a board; these are made on a ledger over any plant.
 #[derive(Clone, Copy)]
 pub enum Order {
     Grant(usize),
