@@ -3,8 +3,9 @@
 // The machine goes from idle to load, work and done, and is idle again. The line has the places load, work and done alone, so
 // that only its fixed rule keeps the second one out, where in the bank it is the idle place.
 use crate::nets::{make_bank, make_line, make_table};
-use crate::orders::{open_cell, run_calls};
-use crate::show::Shown;
+use crate::order::run_orders;
+use crate::orders::open_cell;
+use crate::show::{Called, Shown};
 use crate::typing::typed;
 use ledger::call::Call::{self, Admit, Cancel, Commit, Grant, Report};
 use plant::plant::Plant;
@@ -77,7 +78,12 @@ fn alike_calls(done: &[i32]) -> [Call; 25] {
 
 fn run_plant<P: Plant + Drop>(rt: &HostRuntime, plant: P, layout: &Layout) -> io::Result<()> {
     let mut ledger = open_cell(plant, &layout.fixed)?;
-    run_calls(rt, &mut ledger, &alike_calls(&layout.done), layout.shown)
+    run_orders(
+        rt,
+        &mut ledger,
+        &alike_calls(&layout.done).map(Called),
+        layout.shown,
+    )
 }
 
 pub fn run(rt: &HostRuntime) -> io::Result<()> {

@@ -1,10 +1,13 @@
-// Lists of calls that move tokens, on any plant.
-use crate::show::{Tokens, Told};
+// Calls that move tokens, on any plant.
+use crate::show::Tokens;
+use crate::step::{Step, run_steps};
 use model::fault::Fault;
 use plant::plant::Plant;
 use std::{fmt, io};
 
 // A call of a plant, with its move.
+// Kept: the program runs has the same enum. A library crate for both would have to promise, by a match on the call, what `make`
+// answers and leaves of the plant, and by `output` what `Display` writes: each would say again what the `match` below says.
 #[derive(Clone, Copy)]
 pub enum Firing {
     Begin(usize),
@@ -12,9 +15,9 @@ pub enum Firing {
     Back(usize),
 }
 
-impl Firing {
-    fn make<P: Plant>(self, plant: &mut P) -> Result<(), Fault> {
-        match self {
+impl<P: Plant> Step<P> for Firing {
+    fn make(&self, plant: &mut P) -> Result<(), Fault> {
+        match *self {
             Firing::Begin(t) => plant.begin(t),
             Firing::Finish(t) => plant.finish(t),
             Firing::Back(t) => plant.back(t),
@@ -32,28 +35,11 @@ impl fmt::Display for Firing {
     }
 }
 
-// Each call with its answer, and what `show` prints of the plant after it.
-pub fn run_shown<P: Plant, S: Fn(&P) -> io::Result<()>>(
-    rt: &HostRuntime,
-    plant: &mut P,
-    firings: &[Firing],
-    show: S,
-) -> io::Result<()>
-    requires { S.IsAlwaysCallable show }
-{
-    for firing in firings {
-        let answer = firing.make(plant);
-        print!(rt; "{firing}: {}", Told(answer))?;
-        show(plant)?;
-    }
-    Ok(())
-}
-
 // Each call with its answer and all tokens after it.
 pub fn run_firings<P: Plant>(
     rt: &HostRuntime,
     plant: &mut P,
     firings: &[Firing],
 ) -> io::Result<()> {
-    run_shown(rt, plant, firings, |p| println!(rt; "{}", Tokens(p)))
+    run_steps(rt, plant, firings, |p| println!(rt; "{}", Tokens(p)))
 }

@@ -14,6 +14,7 @@ mod show;
 mod shut;
 mod slips;
 mod stacked;
+mod step;
 mod typing;
 mod worked;
 

@@ -1,10 +1,12 @@
 // Orders to a ledger on any plant: its calls that take a move.
-use crate::show::{Shown, Standing, Told};
+use crate::show::{Shown, Standing};
+use crate::step::{Step, run_steps};
 use ledger::ledger::Ledger;
 use model::fault::Fault;
 use plant::plant::Plant;
 use std::{fmt, io};
 
+// Kept: `Call` of the ledger has `Admit` besides, and is made on a ledger over a board; these are made on a ledger over any plant.
 #[derive(Clone, Copy)]
 pub enum Order {
     Grant(usize),
@@ -25,10 +27,11 @@ impl Order {
             Order::Report(t) => ledger.may_report(t),
         }
     }
+}
 
-    // What the ledger answers.
-    pub fn make<P: Plant>(self, ledger: &mut Ledger<P>) -> Result<(), Fault> {
-        match self {
+impl<P: Plant> Step<Ledger<P>> for Order {
+    fn make(&self, ledger: &mut Ledger<P>) -> Result<(), Fault> {
+        match *self {
             Order::Grant(t) => ledger.grant(t),
             Order::Commit(t) => ledger.commit(t),
             Order::Cancel(t) => ledger.cancel(t),
@@ -48,16 +51,17 @@ impl fmt::Display for Order {
     }
 }
 
-// Each order with its answer and the ledger after it.
-pub fn run_orders<P: Plant>(
+// Each call of a ledger with its answer and the ledger after it.
+pub fn run_orders<P: Plant, C: Step<Ledger<P>>>(
     rt: &HostRuntime,
     ledger: &mut Ledger<P>,
-    orders: &[Order],
+    orders: &[C],
     shown: Shown,
 ) -> io::Result<()> {
-    for order in orders {
-        let answer = order.make(ledger);
-        println!(rt; "{order}: {}{}", Told(answer), Standing(ledger, shown))?;
-    }
-    Ok(())
+    run_steps(
+        rt,
+        ledger,
+        orders,
+        |l| println!(rt; "{}", Standing(l, shown)),
+    )
 }

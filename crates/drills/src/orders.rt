@@ -1,5 +1,6 @@
 // The calls of a cell, one by one and as a list: a board over a monitor over the zone, which holds at most two.
 use crate::nets::make_table;
+use crate::order::run_orders;
 use crate::show::{Called, Shown, Standing, Told};
 use crate::typing::typed;
 use layers::board::Board;
@@ -33,24 +34,6 @@ pub fn open_zone(rt: &HostRuntime) -> io::Result<Zone> {
     open_cell(make_table(rt, "n1.net")?, &typed(&[0, 1], 2))
 }
 
-pub fn run_calls<P: Plant>(
-    rt: &HostRuntime,
-    ledger: &mut Ledger<Board<P>>,
-    calls: &[Call],
-    shown: Shown,
-) -> io::Result<()> {
-    for call in calls {
-        let answer = ledger.make(call);
-        println!(rt;
-            "{}: {}{}",
-            Called(call),
-            Told(answer),
-            Standing(ledger, shown)
-        )?;
-    }
-    Ok(())
-}
-
 // Two are let into the zone and a third is not; then the bench is to hold at most one.
 fn zone_calls() -> [Call; 10] {
     [
@@ -70,9 +53,9 @@ fn zone_calls() -> [Call; 10] {
 fn run_one_by_one(rt: &HostRuntime) -> io::Result<()> {
     println!(rt; "the zone, call by call")?;
     let mut ledger = open_zone(rt)?;
-    run_calls(rt, &mut ledger, &zone_calls(), SHOWN)?;
+    run_orders(rt, &mut ledger, &zone_calls().map(Called), SHOWN)?;
     println!(rt; "free at place 4: {}", ledger.free(4))?;
-    run_calls(rt, &mut ledger, &[Grant(1)], SHOWN)
+    run_orders(rt, &mut ledger, &[Called(Grant(1))], SHOWN)
 }
 
 fn run_list(rt: &HostRuntime) -> io::Result<()> {

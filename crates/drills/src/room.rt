@@ -2,6 +2,7 @@
 use crate::nets::make_line;
 use crate::order::Order::{self, Cancel, Commit, Grant, Report};
 use crate::show::{Shown, Standing, Told};
+use crate::step::Step;
 use ledger::ledger::Ledger;
 use plant::plant::Plant;
 use std::io;

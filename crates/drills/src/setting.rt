@@ -6,6 +6,8 @@ use plant::plant::Plant;
 use rules::typed::TypedRule;
 use std::io;
 
+// Kept: two functions. As calls of `run_steps` each would be a struct of its own with an `impl` of `Step` and one of `Display`, in the
+// place of two lines; and a function for both, given the answer and the words, would be the `print!` alone.
 pub fn set_monitor<P: Plant>(
     rt: &HostRuntime,
     monitor: &mut Monitor<P>,

@@ -1,4 +1,6 @@
 // How answers, rules, calls and tokens are printed.
+use crate::step::Step;
+use layers::board::Board;
 use ledger::call::Call::{self, Admit, Cancel, Commit, Grant, Report};
 use ledger::ledger::Ledger;
 use model::fault::Fault;
@@ -46,13 +48,19 @@ impl fmt::Display for Written<'_> {
     }
 }
 
-// A call of a ledger.
-#[derive(Drop)]
-pub struct Called<'a>(pub &'a Call);
+// A call of a ledger over a board.
+#[derive(Clone, Copy)]
+pub struct Called(pub Call);
 
-impl fmt::Display for Called<'_> {
+impl<P: Plant> Step<Ledger<Board<P>>> for Called {
+    fn make(&self, ledger: &mut Ledger<Board<P>>) -> Result<(), Fault> {
+        ledger.make(&self.0)
+    }
+}
+
+impl fmt::Display for Called {
     fn fmt<W: fmt::Write>(&self, f: &mut fmt::Formatter<W>) -> fmt::Result {
-        match self.0 {
+        match &self.0 {
             Grant(t) => write!(f, "grant {t}"),
             Commit(t) => write!(f, "commit {t}"),
             Cancel(t) => write!(f, "cancel {t}"),

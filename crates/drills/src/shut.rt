@@ -1,9 +1,9 @@
 // Boards over boards until one is shut, and shut monitors: they add no place and no rule can be set there.
 use crate::firing::Firing::{self, Back, Begin, Finish};
-use crate::firing::run_shown;
 use crate::nets::{make_bank, make_line, make_table};
 use crate::setting::{set_monitor, set_row};
 use crate::show::TokensAt;
+use crate::step::run_steps;
 use crate::typing::typed;
 use layers::board::Board;
 use layers::monitor::Monitor;
@@ -39,7 +39,7 @@ fn run_firings<P: Plant>(
     firings: &[Firing],
     places: &[usize],
 ) -> io::Result<()> {
-    run_shown(rt, plant, firings, |plant| {
+    run_steps(rt, plant, firings, |plant| {
         println!(rt; "{}", TokensAt(plant, places))
     })
 }

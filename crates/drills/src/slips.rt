@@ -32,7 +32,8 @@ fn nothing(_: &mut Zone, _: usize) -> Option<Result<(), Fault>> {
 
 // A driver from claim to end. What `before` does ends the grant by its number, so that the slip is worth nothing. Then `end`, which is
 // printed by its name, takes the slip back, whether or not there was anywhere to print.
-// Kept: for this ledger alone, since `rt check` cannot state a bound on calls of `&mut Ledger<P>` for a parameter `P`.
+// Kept: for this ledger alone. A bound on calls of `&mut S`, as `take_turns` of bench has, does not serve, since `claim` and what is
+// printed are of a `Ledger<P>`; and a bound on calls of `&mut Ledger<P>` for a parameter `P` cannot be stated in a contract.
 fn drive<B, E>(
     rt: &HostRuntime,
     zone: &mut Zone,
