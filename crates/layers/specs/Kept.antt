@@ -1,6 +1,6 @@
 -- What no row in a monitor or a board is without, and that each change of one keeps it.
-use Rattle.std.specs.Prelude.{◌≡◌, ℕ, ◌<◌, ◌≤◌, cond, List, length, replicate, ℤ, ◌==◌, ◌≢◌, slice_set, unsigned_abs, refl}
-use Rattle.std.proofs.Common.{ap, sym, ◌∙◌, ⊎_elim, arith}
+use Rattle.std.specs.Prelude.{◌≡◌, ℕ, zero, suc, ◌<◌, ◌≤◌, Bool, true, false, cond, List, [], ◌∷◌, length, replicate, ℤ, ◌==◌, ◌≢◌, slice_set, unsigned_abs, refl}
+use Rattle.std.proofs.Common.{ap, sym, ◌∙◌, subst, ⊎_elim, arith}
 use Rattle.std.proofs.lemmas.List.{get_or_past, get_or-replicate, get_or-set_same, get_or-set_other, length-replicate}
 use Rattle.std.proofs.lemmas.Bool.{cases_eq, cases_lt, cond-true, cond-false, cond_both, eq-eqb, ne_eqb}
 use Rattle.std.proofs.lemmas.Int.{ints}
@@ -8,7 +8,7 @@ use Rattle.model.specs.Layer as model
 use Rattle.model.specs.Layer.{blank, row_with, change_row, monitor, board, row_count}
 use Rattle.model.specs.Sizes.{monitor_rows, board_rows, control_limit, most_control_arc}
 use Rattle.layers.specs.declared.row.Row.{Row}
-use Rattle.layers.specs.Rows.{row_of, nothing, rows_of, rule_row, top_of}
+use Rattle.layers.specs.Rows.{row_of, nothing, rows_of, only, rule_row, top_of}
 
 pub record Kept (x : model.Row) : Type 0 where
   pub one_way : (t : ℕ) → 0 < x.take t → x.give t ≡ 0
@@ -41,7 +41,35 @@ kept_change rows r new all here i = cond_both (i == r) new (rows i) Kept (λ e. 
 pub rows_past : (rows : List Row) (r : ℕ) → length rows ≤ r → rows_of rows r ≡ blank
 rows_past rows r l = ap row_of (get_or_past rows r nothing l)
 
+-- ---- the one row of a monitor
+pub only_rows : (row : Row) → rows_of (row ∷ []) ≡ only row
+only_rows row = λ j r. at r j
+  where
+    at : (r : ℕ) → rows_of (row ∷ []) r ≡ only row r
+    at zero = refl
+    at (suc r) = sym (cond-false (suc r == 0) (row_of row) blank (ne_eqb (suc r) 0 (λ e. omega arith)))
+
+pub only_first : (row : Row) (r : ℕ) → r < 1 → only row r ≡ row_of row
+only_first row r l = cond-true (r == 0) (row_of row) blank (eq-eqb r 0 (omega arith))
+
+pub only_change : (row new : Row) (r : ℕ) (x : model.Row) → r < 1 → row_of new ≡ x → only new ≡ change_row (only row) r x
+only_change row new r x l e = subst (λ (k : ℕ). only new ≡ change_row (only row) k x) (sym first) (λ j i. at (i == 0) i j)
+  where
+    first : r ≡ 0
+    first = omega arith
+
+    at : (b : Bool) (i : ℕ) → cond b (row_of new) blank ≡ cond b x (cond b (row_of row) blank)
+    at true i = e
+    at false i = refl
+
 -- ---- new rows
+pub only_blank : (row : Row) → row_of row ≡ blank → only row ≡ (λ r. blank)
+only_blank row e = λ j r. at (r == 0) j
+  where
+    at : (b : Bool) → cond b (row_of row) blank ≡ blank
+    at true = e
+    at false = refl
+
 pub rows_blank : (n : ℕ) (row : Row) → row_of row ≡ blank → rows_of (replicate n row) ≡ (λ r. blank)
 rows_blank n row e = λ j r. at r j
   where

@@ -2,6 +2,7 @@
 --   row_of           the row that it is
 --   nothing          what is read past the last row
 --   rows_of          the rows of a table of them
+--   only             one row, and none after it: the rows of a monitor's table
 --   rule_row         the row of a rule that each move raises by so much, with so many tokens
 --   top_of           the layer that a table of so many rows is for: a monitor's one row, and a board's otherwise
 use Rattle.std.specs.Prelude.{ℕ, true, false, cond, List, [], ℤ, pos, ◌==◌, slice_index_or}
@@ -19,6 +20,9 @@ nothing = record { raises = []; free = 0; in_use = false }
 
 abbrev pub rows_of : List Row → ℕ → model.Row
 rows_of rows r = row_of (slice_index_or rows r nothing)
+
+abbrev pub only : Row → ℕ → model.Row
+only row r = cond (r == 0) (row_of row) model.blank
 
 abbrev pub rule_row : (ℕ → ℤ) → ℕ → model.Row
 rule_row raises free = record { take = λ t. positive (raises t); give = λ t. negative (raises t); free = free; in_use = true }
