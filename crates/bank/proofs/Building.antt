@@ -1,13 +1,12 @@
 -- A bank from records: the word of what a test says of them, and the net and tokens of what is made.
-use Rattle.std.proofs.Common.{◌≡◌, ℕ, ◌+◌, ◌^◌, ◌<◌, ◌≤◌, Bool, true, false, cond, ◌&&◌, eqb, ltb, leb, List, [], ◌∷◌, suc, length, map, get_or, sym, ap, refl, ◌∙◌, ⊎_elim, arith}
+use Rattle.std.proofs.Common.{◌≡◌, ℕ, ◌+◌, ◌^◌, ◌<◌, ◌≤◌, Bool, Decides, true, false, cond, ◌&&◌, eqb, ltb, leb, List, [], ◌∷◌, suc, length, map, get_or, sym, ap, refl, ◌∙◌, ⊎_elim, arith}
 use Rattle.std.proofs.lemmas.Bool.Decides.{nat_tests}
 use Rattle.net_text.specs.declared.net.Place.{Place}
 use Rattle.net_text.specs.declared.net.Move.{Move}
 use Rattle.net_text.specs.Nets.{no_place}
-use Rattle.std.proofs.lemmas.Bool.{cases_lt, cases_eq, both_ways}
+use Rattle.std.proofs.lemmas.Bool.{cases_lt, cases_eq}
 use Rattle.std.proofs.lemmas.List.Folds.{list_all_at}
 use Rattle.std.specs.List.{list_all}
-use Rattle.std.specs.Bool.{MatchBool}
 use Rattle.std.proofs.lemmas.List.{get_or_past, get_or-map}
 use Rattle.bank.specs.Banks.{bit, letter, bank_net}
 use Rattle.net_text.specs.Nets.{tokens_at, letter_at}
@@ -51,9 +50,8 @@ singles_to : (ps : List Place) → AllSingle ps → list_all single ps ≡ true
 singles_to [] h = refl
 singles_to (x ∷ xs) h = grind (arith, nat_tests, h 0 (omega arith), singles_to xs (λ p l. h (suc p) (omega arith)))
 
-pub singles_decided : (r : Bool) (ps : List Place) → r ≡ list_all single ps → MatchBool r (AllSingle ps) (AllSingle ps → ⊥)
-singles_decided true ps e = λ p l. let h : single (get_or ps p no_place) ≡ true = singles_at ps p (sym e) l in grind (arith, nat_tests)
-singles_decided false ps e = λ h. both_ways false refl (e ∙ singles_to ps h)
+pub singles_decided : (r : Bool) (ps : List Place) → r ≡ list_all single ps → Decides r (AllSingle ps)
+singles_decided r ps e = (λ h p l. let one : single (get_or ps p no_place) ≡ true = singles_at ps p (sym e ∙ h) l in grind (arith, nat_tests), λ h. e ∙ singles_to ps h)
 
 pub made_net : (k w n : ℕ) (ms : List Move) → k ≡ n → ((t : ℕ) → letter w t ≡ letter_at ms t) → bank_net k (letter w) ≡ bank_net n (letter_at ms)
 made_net k w n ms e read = λ i. bank_net (e i) (λ t. read t i)

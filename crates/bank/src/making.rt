@@ -1,5 +1,5 @@
 // A bank from the records of a net text.
-ghost use Rattle.std.specs.Prelude.{◌≡◌, ℕ, ◌^◌, ◌<◌, ◌≤◌, Bool, false, length, map, slice_index_or, MatchBool};
+ghost use Rattle.std.specs.Prelude.{◌≡◌, ℕ, ◌^◌, ◌<◌, ◌≤◌, Bool, false, length, map, slice_index_or, Decides};
 ghost use Rattle.std.specs.Fn.{FnReturnsAt};
 ghost use Rattle.model.specs.Sizes.{most_places};
 ghost use Rattle.bank.specs.Banks.{letter};
@@ -30,7 +30,7 @@ fn bits<T, F: Fn(&T) -> bool>(items: &[T], test: F) -> u32
 
 // Whether all places have the limit 1 and at most one token.
 fn all_single(places: &[Place]) -> bool
-    ensures { MatchBool result (AllSingle places.now) (AllSingle places.now → ⊥) }
+    ensures { Decides result (AllSingle places.now) }
 {
     places
         .iter()
@@ -39,7 +39,7 @@ fn all_single(places: &[Place]) -> bool
 
 // Whether the kind, the counts and the places are a bank's.
 fn is_bank(net: &NetText) -> bool
-    ensures { MatchBool result (BankText net.now) (BankText net.now → ⊥) }
+    ensures { Decides result (BankText net.now) }
 {
     let count = net.places.len();
     matches!(net.kind, Kind::Bank)

@@ -56,7 +56,8 @@ impl<P: Plant, R: Rows> Plant for Layer<P, R> {
 
     // Kept: this call and the next two. Tried: `fn call<B, F>(&mut self, counts: bool, below: B, rows: F)`, where `B` is an
     // `FnOnce(&mut P) -> Result<(), Fault>` and `F` an `FnOnce(&mut R)`, takes five clauses, and with it the check left open each
-    // clause of `begin` and what the rows ask. A method of `Plant` that moves tokens unasked would be public with a `requires`.
+    // clause of `begin` and what the rows ask. A method of `Plant` that moves tokens unasked would be public with a `requires`, and no
+    // public function may have one where a refusal can stand.
     fn begin(&mut self, t: usize) -> Result<(), Fault>
         ensures answer { result ≡ begin_answer (⟦<Self as Net>⟧.net self.old) (⟦<Self as Plant>⟧.tokens self.old) t }
         ensures same { ⟦<Self as Net>⟧.net self.new ≡ ⟦<Self as Net>⟧.net self.old }

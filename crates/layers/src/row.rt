@@ -6,8 +6,8 @@ ghost use Rattle.model.specs.Layer.{blank};
 use model::sizes::MOST_MOVES;
 
 // By how much each move raises the rule, the tokens that are free, and whether a rule is set.
-// Kept: `in_use` is no `Option` of the arcs and the tokens: the project asks for twelve plain row structs in a board, and a row without a
-// rule is told by its arcs and its tokens too (all 0), so `take`, `give` and `free` would each have to say what `None` has.
+// Kept: `in_use` is no `Option` of the arcs and the tokens: the project asks for twelve plain row structs in a board, and of a row without
+// a rule the arcs and the tokens are asked too. They are 0, which `take`, `give` and `free` would each have to say of `None`.
 #[derive(Clone, Copy)]
 pub struct Row {
     pub(crate) raises: [i32; MOST_MOVES],

@@ -6,7 +6,7 @@ ghost use Rattle.layers.specs.Kept.{Kept};
 ghost use Rattle.layers.specs.Rows.{rule_row};
 ghost use Rattle.model.specs.Layer.{Row as RowValue, Top, row_count, blank, row_with, change_row};
 ghost use Rattle.model.specs.Plant.{lowest as lowest_of};
-ghost use Rattle.plant.specs.Searches.{Adds};
+ghost use Rattle.plant.specs.Searches.{Gives};
 ghost use Rattle.model.specs.Sizes.{board_rows, control_limit, most_control_arc};
 
 use model::sizes::{CONTROL_LIMIT, MOST_MOVES};
@@ -56,7 +56,7 @@ pub trait Rows {
     // The lowest row that would go over its limit by what `added` says of it.
     fn over<F: Fn(usize) -> u32>(&self, added: F) -> Option<usize>
         requires { (r : ℕ) → r < row_count top → F.pre added r }
-        ensures { (f : ℕ → ℕ) → Adds (F.post added) (row_count top) f → result ≡ lowest_of (λ r. nat_lt control_limit ((rows self.now r).free + f r)) 0 (row_count top) }
+        ensures { (f : ℕ → ℕ) → Gives (F.post added) (row_count top) f → result ≡ lowest_of (λ r. nat_lt control_limit ((rows self.now r).free + f r)) 0 (row_count top) }
     {
         lowest(self.count(), |r| CONTROL_LIMIT - self.free(r) < added(r))
     }

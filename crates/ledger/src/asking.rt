@@ -68,21 +68,17 @@ impl<P: Plant> Ledger<P> {
     }
 
     // What `commit` would answer now.
-    // Kept: two lines here and in `may_cancel`. `check_open(t).and(..)`, with the answer of the pile as a value, is one, but it asks the pile,
-    // which looks at each place, even where no grant is open; and so would one function of both, given the second answer.
     pub fn may_commit(&self, t: usize) -> Result<(), Fault>
         ensures { result ≡ answer (value_of self.now) (commit t) }
     {
-        self.check_open(t)?;
-        self.pile.may_finish(t)
+        self.check_open(t).and_then(|()| self.pile.may_finish(t))
     }
 
     // What `cancel` would answer now.
     pub fn may_cancel(&self, t: usize) -> Result<(), Fault>
         ensures { result ≡ answer (value_of self.now) (cancel t) }
     {
-        self.check_open(t)?;
-        self.pile.may_back(t)
+        self.check_open(t).and_then(|()| self.pile.may_back(t))
     }
 
     // What `report` would answer now.

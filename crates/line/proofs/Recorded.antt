@@ -1,5 +1,5 @@
 -- What is made of the records of a line: numbers within their ranges, and the net and tokens that they tell of.
-use Rattle.std.proofs.Common.{◌≡◌, ℕ, zero, suc, ◌<◌, ◌≤◌, Bool, true, false, cond, ◌&&◌, ltb, leb, List, [], ◌∷◌, length, get_or, sym, refl, ap, ◌∙◌, ⊎_elim, arith, tests}
+use Rattle.std.proofs.Common.{◌≡◌, ℕ, zero, suc, ◌<◌, ◌≤◌, Bool, Decides, true, cond, ◌&&◌, ltb, leb, List, [], ◌∷◌, length, get_or, sym, refl, ap, ◌∙◌, ⊎_elim, arith}
 use Rattle.std.proofs.lemmas.List.{get_or_past}
 use Rattle.std.proofs.lemmas.Bool.{cases_lt, lt-ltb, le-ltb, cond-true, cond-false, and_parts, and_from, leb-true, le-leb}
 use Rattle.formats.specs.Words.{all}
@@ -11,7 +11,7 @@ use Rattle.line.specs.Lines.{line_net}
 use Rattle.net_text.specs.Nets.{limit_at, tokens_at}
 use Rattle.line.specs.declared.slot.Slot.{Slot}
 use Rattle.line.specs.Slots.{slot}
-use Rattle.line.specs.Making.{Slots, Decides}
+use Rattle.line.specs.Making.{Slots}
 use Rattle.line.specs.Making as making
 
 slot_from : (p : Place) → is_filled p ≡ true → making.Slot p
@@ -33,8 +33,7 @@ slots_to [] s = refl
 slots_to (x ∷ xs) s = and_from _ _ (slot_to x (s 0 (omega arith))) (slots_to xs (λ p l. s (suc p) (omega arith)))
 
 pub slots_decided : (r : Bool) (ps : List Place) → r ≡ all is_filled ps → Decides r (Slots ps)
-slots_decided true ps e = slots_from ps (sym e)
-slots_decided false ps e = λ s. let z : ◌≡◌ {A = Bool} false true = e ∙ slots_to ps s in search tests
+slots_decided r ps e = (λ h. slots_from ps (sym e ∙ h), λ s. e ∙ slots_to ps s)
 
 module _ (ps : List Place) (us : List Slot) (slots : Slots ps) (read : (p : ℕ) → slot us p ≡ record { limit = limit_at ps p; tokens = tokens_at ps p }) where
   limits : (p : ℕ) → (slot us p).limit ≡ limit_at ps p

@@ -1,5 +1,6 @@
 // The line that a net text tells of.
-ghost use Rattle.line.specs.Making.{LineText, Decides, Made};
+ghost use Rattle.std.specs.Prelude.{Decides};
+ghost use Rattle.line.specs.Making.{LineText, Made};
 
 use crate::line::{Line, PLACES};
 use crate::slot::Slot;

@@ -27,8 +27,8 @@ use texts::walk::Lines;
 
 impl<'a> NetReader<'a> {
     // Adds the place that the fields of a place line say.
-    // Kept: this and the next two differ in the reading and in the `Vec`, and share `push(..)?`; a generic function of a `Vec` and a read
-    // item would hold just that push, and its call, `add(&mut self.net.places, self.read_place(..))`, borrows `self` twice.
+    // Kept: this and the next two differ in the reading and in the `Vec`; all that a generic function of a `Vec` and a read item could
+    // share is the one call of `push`.
     fn add_place(
         &mut self,
         at: At,

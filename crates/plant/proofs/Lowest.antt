@@ -2,7 +2,7 @@
 use Rattle.std.proofs.Common.{◌≡◌, ℕ, zero, suc, ◌+◌, ◌-◌, ◌<◌, ◌≤◌, Bool, true, false, cond, Some, None, Option, MatchOption, sym, refl, ap, ◌∙◌, inl, inr, subst, add-one, arith}
 use Rattle.std.proofs.lemmas.Bool.{cond-true, cond-false, cases_eq}
 use Rattle.model.specs.Plant.{lowest}
-use Rattle.plant.specs.Searches.{Tells}
+use Rattle.plant.specs.Searches.{Gives}
 
 -- none below i passes: the lowest of all is the lowest from i on
 abbrev pub Sought : (ℕ → Bool) → ℕ → ℕ → Type 0
@@ -43,7 +43,7 @@ pub lowest_none : (f : ℕ → Bool) (n : ℕ) → ((p : ℕ) → p < n → f p 
 lowest_none f n below = found_nowhere f n n (reached f n n (omega arith) below) (omega arith)
 
 -- what was found by the answers of a test, which are those of f
-pub lowest_told : {P : ℕ → Bool → Type 0} (f : ℕ → Bool) (n : ℕ) (r : Option ℕ) → Tells P n f
+pub lowest_told : {P : ℕ → Bool → Type 0} (f : ℕ → Bool) (n : ℕ) (r : Option ℕ) → Gives P n f
     → MatchOption r ((k : ℕ) → 0 ≤ k → k < n → P k false) (λ i. (0 ≤ i) × (i < n) × P i true × ((k : ℕ) → 0 ≤ k → k < i → P k false)) → r ≡ lowest f 0 n
 lowest_told f n None tells none = sym (lowest_none f n (λ p l. sym (tells p false l (none p (omega arith) l))))
 lowest_told f n (Some i) tells found =

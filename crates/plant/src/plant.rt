@@ -1,6 +1,6 @@
 // What moves: a net with tokens.
 ghost use Rattle.std.specs.Prelude.{◌≡◌, ℕ, ◌<◌, ◌≤◌, if◌then◌else◌};
-ghost use Rattle.plant.specs.Searches.{Adds};
+ghost use Rattle.plant.specs.Searches.{Gives};
 ghost use Rattle.model.specs.Plant.{accepted, short_place, over_place, begin_answer, finish_answer, back_answer, begun, finished, gone_back};
 ghost use Rattle.model.specs.Layer.{Pile, pile_net, pile_free, pile_begun, pile_finished, pile_gone_back};
 
@@ -20,9 +20,8 @@ pub trait Plant: Net {
     fn free(&self, p: usize) -> u32
         ensures { result ≡ tokens self.now p };
 
-    // This search and the two after it go over all places; a plant that knows where to look answers them faster.
-
     // The lowest place that is short of what the move `t` takes there.
+    // This search, `over_by_give` and `over_by_take` go over all places; a plant that knows where to look answers them faster.
     fn short_place(&self, t: usize) -> Option<usize>
         ensures { result ≡ short_place (Self.Net.net self.now) (tokens self.now) t }
     {
@@ -32,7 +31,7 @@ pub trait Plant: Net {
     // The lowest place that has no room for what `added` says of it.
     fn over_place<F: Fn(usize) -> u32>(&self, added: F) -> Option<usize>
         requires { (p : ℕ) → p < (Self.Net.net self.now).places → F.pre added p }
-        ensures { (f : ℕ → ℕ) → Adds (F.post added) (Self.Net.net self.now).places f → result ≡ over_place (Self.Net.net self.now) (tokens self.now) f }
+        ensures { (f : ℕ → ℕ) → Gives (F.post added) (Self.Net.net self.now).places f → result ≡ over_place (Self.Net.net self.now) (tokens self.now) f }
     {
         lowest(self.places(), |p| self.limit(p) - self.free(p) < added(p))
     }

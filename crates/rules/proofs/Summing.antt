@@ -12,7 +12,8 @@ use Rattle.std.proofs.iter.Yields.{nat_range_steps}
 use Rattle.model.specs.Sizes.{most_places, most_limit, most_worked_weight}
 use Rattle.model.specs.Net.{signed_sum}
 use Rattle.model.proofs.Sums.{abs_mul_le}
-use Rattle.rules.specs.Weighing.{Limited, Gives}
+use Rattle.plant.specs.Searches.{Gives}
+use Rattle.rules.specs.Weighing.{Limited}
 use Rattle.rules.proofs.Terms.{most_term, product_fits}
 
 pub term_fits : (a b : ℤ) → nat_abs a ≤ most_worked_weight → nat_abs b ≤ most_limit → SFits w32 (a *ℤ b)

@@ -1,11 +1,7 @@
--- What is said of a closure that gives a number of each place, which a weighted sum multiplies by the weight.
+-- What is asked of a closure that gives a number of each place, which a weighted sum multiplies by the weight.
 --   Limited post n   the numbers that it gives of the places below n are no larger than a limit
---   Gives post n f   they are those that f says
-use Rattle.std.specs.Prelude.{◌≡◌, ℕ, ◌<◌, ◌≤◌, ℤ, unsigned_abs}
+use Rattle.std.specs.Prelude.{ℕ, ◌<◌, ◌≤◌, ℤ, unsigned_abs}
 use Rattle.model.specs.Sizes.{most_limit}
 
 abbrev pub Limited : (ℕ → ℤ → Type 0) → ℕ → Type 0
 Limited post n = (p : ℕ) (z : ℤ) → p < n → post p z → unsigned_abs z ≤ most_limit
-
-abbrev pub Gives : (ℕ → ℤ → Type 0) → ℕ → (ℕ → ℤ) → Type 0
-Gives post n f = (p : ℕ) (z : ℤ) → p < n → post p z → z ≡ f p

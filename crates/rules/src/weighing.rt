@@ -4,7 +4,8 @@ ghost use Rattle.model.specs.Sizes.{most_places, most_arc, most_limit, most_work
 ghost use Rattle.model.specs.Net.{signed_sum, incidence as incidence_of};
 ghost use Rattle.model.specs.Rule.{raise as raise_of, weighted_free};
 ghost use Rattle.rules.specs.Rules.{worked_of};
-ghost use Rattle.rules.specs.Weighing.{Limited, Gives};
+ghost use Rattle.plant.specs.Searches.{Gives};
+ghost use Rattle.rules.specs.Weighing.{Limited};
 
 use crate::worked::WorkedRule;
 use plant::net::Net;

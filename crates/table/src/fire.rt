@@ -118,7 +118,8 @@ impl Plant for Table {
     }
 
     // Kept: this call and the next two, the same in `bank` and in `table`. To provide them, `Plant` would need a method that moves the
-    // tokens of `t` unasked: public as the trait is, with a `requires` that the move may begin, and no public function may have one.
+    // tokens of `t` unasked: public as the trait is, with a `requires` that the move may begin. No public function may have a `requires`
+    // where a refusal can stand.
     fn begin(&mut self, t: usize) -> Result<(), Fault> {
         self.may_begin(t)?;
         self.tokens = self.taken(t);

@@ -12,7 +12,8 @@ pub const NAME_TAIL: usize = 11;
 pub const MOST_DIGITS: usize = 9;
 
 // Where the byte `b` first stands from `start` on; the end of the text, or `start` beyond it, if nowhere.
-// Kept: a public function keeps what it promises, here from any `start` on, though `cut` and `Lines` ask from 0.
+// Kept: `start`, though `cut` and `Lines` ask from 0: the edit `until_from_the_start` plants a search that leaves it out, and an edit keeps
+// its meaning.
 pub fn until(text: &[u8], start: usize, b: u8) -> usize
     ensures value { result ≡ start + prefix_len (is_not b) (drop start text.now) }
     ensures within { start ≤ length text.now → result ≤ length text.now }

@@ -1,4 +1,4 @@
-use Rattle.std.proofs.Common.{◌≡◌, ℕ, false, eqb, length, get_or, map, vec_items, ◌∙◌, rules, tests}
+use Rattle.std.proofs.Common.{◌≡◌, ℕ, false, eqb, length, get_or, map, vec_items, refl, ◌∙◌, rules, tests}
 use Rattle.net_text.specs.declared.net.Place.{Place}
 use Rattle.net_text.specs.declared.net.Move.{Move}
 use Rattle.net_text.specs.Nets.{no_place, no_move, tokens_at, letter_at}
@@ -12,7 +12,7 @@ pub returns : goal.returns
 returns c =
     let ps = vec_items c.args.net.now.places in
     let ms = vec_items c.args.net.now.moves in
-    let text : BankText c.args.net.now = c.if-not-is_bank.ensures in
+    let text : BankText c.args.net.now = c.if-not-is_bank.ensures.0 refl in
     let counted : c.len.result ≡ length ps = search rules in
     let tokens : (p : ℕ) → letter c.bits.result p ≡ eqb (tokens_at ps p) 1 = λ p.
     c.bits.ensures.bits (λ x. eqb x.tokens 1) (λ x b k. search (rules, tests)) p

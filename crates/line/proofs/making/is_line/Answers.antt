@@ -1,5 +1,5 @@
-use Rattle.std.proofs.Common.{vec_items, rules}
-use Rattle.line.specs.Making.{Slots, Decides}
+use Rattle.std.proofs.Common.{Decides, vec_items, rules}
+use Rattle.line.specs.Making.{Slots}
 use Rattle.line.proofs.Recorded.{slots_decided}
 use Rattle.line.proofs.making.is_line.Goals as goal
 

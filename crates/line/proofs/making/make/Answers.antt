@@ -1,4 +1,4 @@
-use Rattle.std.proofs.Common.{◌≡◌, ℕ, false, length, get_or, vec_items, ◌∙◌, arith, rules, tests}
+use Rattle.std.proofs.Common.{◌≡◌, ℕ, false, length, get_or, vec_items, refl, ◌∙◌, arith, rules, tests}
 use Rattle.net_text.specs.declared.net.Place.{Place}
 use Rattle.net_text.specs.declared.net.Move.{Move}
 use Rattle.model.specs.Sizes.{most_moves}
@@ -13,7 +13,7 @@ use Rattle.line.proofs.making.make.Goals.{After-front-2, at-returns}
 
 module _ (c : After-front-2) where
   text : LineText c.args.net.now
-  text = c.if-not-is_line.ensures
+  text = c.if-not-is_line.ensures.0 refl
 
   counted : c.len.result ≡ length (vec_items c.args.net.now.places)
   counted = search rules
@@ -34,19 +34,19 @@ module _ (c : After-front-2) where
       ∙ mapped (λ (x : Move). x.controllable) (vec_items c.args.net.now.moves) no_move t
 
 pub invariant_of-result-clause-some_limits : goal.invariant_of-result-clause-some_limits
-invariant_of-result-clause-some_limits c = λ p h. some_made (vec_items c.args.net.now.places) c.front.result c.if-not-is_line.ensures.slots (slots c) p (omega (arith, counted c))
+invariant_of-result-clause-some_limits c = λ p h. some_made (vec_items c.args.net.now.places) c.front.result (c.if-not-is_line.ensures.0 refl).slots (slots c) p (omega (arith, counted c))
 
 pub invariant_of-result-clause-small_limits : goal.invariant_of-result-clause-small_limits
-invariant_of-result-clause-small_limits c = small_made (vec_items c.args.net.now.places) c.front.result c.if-not-is_line.ensures.slots (slots c)
+invariant_of-result-clause-small_limits c = small_made (vec_items c.args.net.now.places) c.front.result (c.if-not-is_line.ensures.0 refl).slots (slots c)
 
 pub invariant_of-result-clause-held : goal.invariant_of-result-clause-held
-invariant_of-result-clause-held c = held_made (vec_items c.args.net.now.places) c.front.result c.if-not-is_line.ensures.slots (slots c)
+invariant_of-result-clause-held c = held_made (vec_items c.args.net.now.places) c.front.result (c.if-not-is_line.ensures.0 refl).slots (slots c)
 
 pub returns : goal.returns
 returns c =
     let d = (at-returns c).After-front-2 in
     let ps = vec_items c.args.net.now.places in
-    let text = c.if-not-is_line.ensures in
+    let text = c.if-not-is_line.ensures.0 refl in
     record {
       text = text;
       net = net_made ps c.front.result text.slots (slots d) c.len.result (length ps) _ _ (counted d) (letters d);
