@@ -32,8 +32,8 @@ fn nothing(_: &mut Zone, _: usize) -> Option<Result<(), Fault>> {
 
 // A driver from claim to end. What `before` does ends the grant by its number, so that the slip is worth nothing. Then `end`, which is
 // printed by its name, takes the slip back, whether or not there was anywhere to print.
-// Kept: for this ledger alone. A bound on calls of `&mut S`, as `take_turns` of bench has, does not serve, since `claim` and what is
-// printed are of a `Ledger<P>`; and a bound on calls of `&mut Ledger<P>` for a parameter `P` cannot be stated in a contract.
+// Kept: for this ledger alone. Tried with `<P: Plant, B: FnOnce(&mut Ledger<P>, usize) -> ..>`: the check "cannot state an item with such
+// a type in a bound yet". A bound on calls of `&mut S` for any `S` does not serve, since `claim` and what is printed are of a `Ledger<P>`.
 fn drive<B, E>(
     rt: &HostRuntime,
     zone: &mut Zone,
