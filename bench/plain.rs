@@ -1,6 +1,6 @@
 // The work of crates/bench in plain Rust, as one would write it without proofs: to compare answers and speed with.
 // Usage: plain FOLDER PART TURNS, where FOLDER has the net texts; it prints the line that `bench` prints for the part.
-use std::collections::HashMap;
+use std::collections::{HashMap, HashSet};
 use std::fs;
 
 #[derive(Clone, Copy, Debug, PartialEq)]
@@ -28,8 +28,247 @@ fn refused(refusal: Refusal, transition: usize, place: Option<usize>) -> Answer 
     Err(Fault { refusal, transition, place })
 }
 
+// ---- the texts
+#[derive(Clone, Copy, Debug)]
+#[allow(dead_code)]
+struct TextFault {
+    number: u32,
+    line: usize,
+    byte: usize,
+}
+
 // What a net text says.
 struct NetText {
+    kind: String,
+    places: Vec<(String, u32, u32)>,
+    moves: Vec<(String, bool)>,
+    arcs: Vec<(usize, usize, u32, u32)>,
+}
+
+// What a line of a rules text says.
+#[allow(dead_code)]
+struct RuleText {
+    name: String,
+    weights: Vec<i32>,
+    bound: i64,
+}
+
+// One line that is being read: its number, and where it starts in the text.
+struct TextLine<'a> {
+    number: usize,
+    start: usize,
+    fields: Vec<&'a [u8]>,
+}
+
+impl<'a> TextLine<'a> {
+    fn fault(&self, number: u32, byte: usize) -> TextFault {
+        TextFault { number, line: self.number, byte }
+    }
+
+    // Where the field `i` starts.
+    fn at(&self, i: usize) -> usize {
+        self.start + self.fields[..i].iter().map(|f| f.len() + 1).sum::<usize>()
+    }
+
+    fn name(&self, i: usize) -> Result<&'a [u8], TextFault> {
+        let f = self.fields[i];
+        let is_name = f.first().is_some_and(u8::is_ascii_alphabetic)
+            && f.len() <= 12
+            && f.iter().all(u8::is_ascii_alphanumeric);
+        if is_name { Ok(f) } else { Err(self.fault(13, self.at(i))) }
+    }
+
+    fn number(&self, i: usize, least: u32, most: u32) -> Result<u32, TextFault> {
+        number(self.fields[i])
+            .filter(|n| (least..=most).contains(n))
+            .ok_or_else(|| self.fault(13, self.at(i)))
+    }
+}
+
+// A number of at most six digits, without a leading zero.
+fn number(f: &[u8]) -> Option<u32> {
+    if f.is_empty() || f.len() > 6 || (f[0] == b'0' && f.len() > 1) || !f.iter().all(u8::is_ascii_digit) {
+        return None;
+    }
+    Some(f.iter().fold(0, |n, b| n * 10 + u32::from(b - b'0')))
+}
+
+fn check_text(text: &[u8]) -> Result<(), TextFault> {
+    if text.is_empty() || text.len() > 16384 || text.last() != Some(&b'\n') {
+        return Err(TextFault { number: 10, line: 0, byte: 0 });
+    }
+    match text.iter().position(|b| !matches!(b, 9 | 10 | 33..=126)) {
+        Some(byte) => {
+            let line = text[..byte].iter().filter(|b| **b == b'\n').count() + 1;
+            Err(TextFault { number: 11, line, byte })
+        }
+        None => Ok(()),
+    }
+}
+
+fn lines(text: &[u8]) -> impl Iterator<Item = TextLine<'_>> {
+    let mut start = 0;
+    text[..text.len() - 1].split(|b| *b == b'\n').enumerate().map(move |(i, line)| {
+        let read = TextLine { number: i + 1, start, fields: line.split(|b| *b == b'\t').collect() };
+        start += line.len() + 1;
+        read
+    })
+}
+
+fn owned(name: &[u8]) -> String {
+    String::from_utf8_lossy(name).into_owned()
+}
+
+fn parse_net(text: &[u8]) -> Result<NetText, TextFault> {
+    check_text(text)?;
+    let mut net = NetText { kind: String::new(), places: vec![], moves: vec![], arcs: vec![] };
+    let (mut places, mut moves) = (HashMap::new(), HashMap::new());
+    let mut joined = HashSet::new();
+    for line in lines(text) {
+        let word = line.fields[0];
+        match (word, line.fields.len()) {
+            (b"plant", 2) if line.number == 1 => {
+                if ![&b"net"[..], b"bank", b"line"].contains(&line.fields[1]) {
+                    return Err(line.fault(13, line.at(1)));
+                }
+                net.kind = owned(line.fields[1]);
+            }
+            (b"place", 4) if line.number > 1 && net.moves.is_empty() && net.arcs.is_empty() => {
+                if net.places.len() == 32 {
+                    return Err(line.fault(16, line.start));
+                }
+                let name = line.name(1)?;
+                if places.contains_key(name) {
+                    return Err(line.fault(14, line.at(1)));
+                }
+                let tokens = line.number(2, 0, 999)?;
+                let limit = line.number(3, 1, 999)?;
+                if tokens > limit {
+                    return Err(line.fault(13, line.at(2)));
+                }
+                places.insert(name, net.places.len());
+                net.places.push((owned(name), tokens, limit));
+            }
+            (b"move", 3) if line.number > 1 && net.arcs.is_empty() => {
+                if net.moves.len() == 32 {
+                    return Err(line.fault(16, line.start));
+                }
+                let name = line.name(1)?;
+                if places.contains_key(name) || moves.contains_key(name) {
+                    return Err(line.fault(14, line.at(1)));
+                }
+                let controllable = match line.fields[2] {
+                    b"c" => true,
+                    b"u" => false,
+                    _ => return Err(line.fault(13, line.at(2))),
+                };
+                moves.insert(name, net.moves.len());
+                net.moves.push((owned(name), controllable));
+            }
+            (b"arc", 5) if line.number > 1 => {
+                let p = *places.get(line.name(1)?).ok_or_else(|| line.fault(15, line.at(1)))?;
+                let t = *moves.get(line.name(2)?).ok_or_else(|| line.fault(15, line.at(2)))?;
+                let take = line.number(3, 0, 9)?;
+                let give = line.number(4, 0, 9)?;
+                if take == 0 && give == 0 {
+                    return Err(line.fault(13, line.at(3)));
+                }
+                if net.kind != "net" || !joined.insert((p, t)) {
+                    return Err(line.fault(17, line.start));
+                }
+                net.arcs.push((p, t, take, give));
+            }
+            _ => return Err(line.fault(12, line.start)),
+        }
+    }
+    let whole = !net.places.is_empty()
+        && !net.moves.is_empty()
+        && match &net.kind[..] {
+            "bank" => {
+                net.places.len() % 4 == 0
+                    && net.moves.len() == net.places.len()
+                    && net.places.iter().all(|(_, _, limit)| *limit == 1)
+            }
+            "line" => net.moves.len() == net.places.len() + 1,
+            _ => true,
+        };
+    if whole { Ok(net) } else { Err(TextFault { number: 18, line: 0, byte: text.len() }) }
+}
+
+// The weights that the sum in the field `i` gives to the places.
+fn parse_sum(line: &TextLine, i: usize, places: &HashMap<&[u8], usize>) -> Result<Vec<i32>, TextFault> {
+    let sum = line.fields[i];
+    let mut weights = vec![0; places.len()];
+    let mut at = 0;
+    let mut sign = 1;
+    if sum.first() == Some(&b'-') {
+        (at, sign) = (1, -1);
+    }
+    loop {
+        let end = sum[at..].iter().position(|b| matches!(b, b'+' | b'-')).map_or(sum.len(), |n| at + n);
+        let part = &sum[at..end];
+        let digits = part.iter().take_while(|b| b.is_ascii_digit()).count();
+        let mut factor = 1;
+        let mut name_at = at;
+        if digits > 0 {
+            factor = number(&part[..digits])
+                .filter(|n| (1..=99).contains(n))
+                .ok_or_else(|| line.fault(19, line.at(i) + at))? as i32;
+            if part.get(digits) != Some(&b'*') {
+                return Err(line.fault(19, line.at(i) + at + digits));
+            }
+            name_at = at + digits + 1;
+        }
+        let name = &sum[name_at..end];
+        if !name.first().is_some_and(u8::is_ascii_alphabetic) {
+            return Err(line.fault(19, line.at(i) + name_at));
+        }
+        let p = *places.get(name).ok_or_else(|| line.fault(15, line.at(i) + name_at))?;
+        weights[p] += sign * factor;
+        if weights[p].abs() > 99 {
+            return Err(line.fault(19, line.at(i) + at));
+        }
+        match sum.get(end) {
+            None => return Ok(weights),
+            Some(b'-') => sign = -1,
+            Some(_) => sign = 1,
+        }
+        at = end + 1;
+    }
+}
+
+fn parse_rules(net: &NetText, text: &[u8]) -> Result<Vec<RuleText>, TextFault> {
+    check_text(text)?;
+    let places: HashMap<&[u8], usize> =
+        net.places.iter().enumerate().map(|(p, (name, _, _))| (name.as_bytes(), p)).collect();
+    let mut taken: HashSet<&[u8]> = places.keys().copied().collect();
+    taken.extend(net.moves.iter().map(|(name, _)| name.as_bytes()));
+    let mut rules = vec![];
+    for line in lines(text) {
+        let word: &[u8] = if line.number == 1 { b"fixed" } else { b"rule" };
+        if line.fields[0] != word || line.fields.len() != 4 {
+            return Err(line.fault(12, line.start));
+        }
+        if rules.len() == 13 {
+            return Err(line.fault(16, line.start));
+        }
+        let name = line.name(1)?;
+        if !taken.insert(name) {
+            return Err(line.fault(14, line.at(1)));
+        }
+        let weights = parse_sum(&line, 2, &places)?;
+        let bound = match line.fields[3] {
+            [b'-', digits @ ..] => number(digits).filter(|n| *n > 0).map(|n| -i64::from(n)),
+            digits => number(digits).map(i64::from),
+        };
+        let bound = bound.ok_or_else(|| line.fault(13, line.at(3)))?;
+        rules.push(RuleText { name: owned(name), weights, bound });
+    }
+    Ok(rules)
+}
+
+// A net as the plants keep it.
+struct Net {
     tokens: Vec<u32>,
     limits: Vec<u32>,
     controllable: Vec<bool>,
@@ -37,40 +276,21 @@ struct NetText {
     gives: Vec<Vec<u32>>,
 }
 
-fn read_net(path: &str) -> NetText {
-    let text = fs::read_to_string(path).expect("a net text");
-    let mut net = NetText {
-        tokens: vec![],
-        limits: vec![],
-        controllable: vec![],
-        takes: vec![],
-        gives: vec![],
-    };
-    let (mut places, mut moves) = (HashMap::new(), HashMap::new());
-    for line in text.lines() {
-        let fields: Vec<&str> = line.split('\t').collect();
-        match fields[..] {
-            ["place", name, tokens, limit] => {
-                places.insert(name, net.tokens.len());
-                net.tokens.push(tokens.parse().unwrap());
-                net.limits.push(limit.parse().unwrap());
-            }
-            ["move", name, letter] => {
-                moves.insert(name, net.controllable.len());
-                net.controllable.push(letter == "c");
-            }
-            ["arc", place, transition, take, give] => {
-                if net.takes.is_empty() {
-                    net.takes = vec![vec![0; net.controllable.len()]; net.tokens.len()];
-                    net.gives = net.takes.clone();
-                }
-                net.takes[places[place]][moves[transition]] = take.parse().unwrap();
-                net.gives[places[place]][moves[transition]] = give.parse().unwrap();
-            }
-            _ => {}
-        }
+fn read_net(path: &str) -> Net {
+    let read = parse_net(&fs::read(path).expect("a net text")).expect("a proper net");
+    let mut takes = vec![vec![0; read.moves.len()]; read.places.len()];
+    let mut gives = takes.clone();
+    for (p, t, take, give) in read.arcs {
+        takes[p][t] = take;
+        gives[p][t] = give;
     }
-    net
+    Net {
+        tokens: read.places.iter().map(|(_, tokens, _)| *tokens).collect(),
+        limits: read.places.iter().map(|(_, _, limit)| *limit).collect(),
+        controllable: read.moves.iter().map(|(_, controllable)| *controllable).collect(),
+        takes,
+        gives,
+    }
 }
 
 trait Plant {
@@ -88,7 +308,7 @@ trait Plant {
 
 // ---- the net table
 struct Table {
-    net: NetText,
+    net: Net,
 }
 
 impl Plant for Table {
@@ -477,7 +697,8 @@ fn grants(name: &str, table: Table, open: usize, turns: u32) {
 
 fn main() {
     let args: Vec<String> = std::env::args().collect();
-    let (folder, part, turns) = (&args[1], &args[2], args[3].parse().expect("a number of turns"));
+    let (folder, part, turns) = (&args[1], &args[2], args[3].parse::<u32>().expect("a number of turns"));
+    let readings = (turns / 1000).max(1);
     let table = || Table { net: read_net(&format!("{folder}/table.net")) };
     match part.as_str() {
         "table" => fire(part, table(), turns),
@@ -492,6 +713,17 @@ fn main() {
         }
         "ledger" => grants(part, table(), 0, turns),
         "open" => grants(part, table(), 10, turns),
+        "net" => {
+            let text = fs::read(format!("{folder}/largest.net")).expect("a net text");
+            let arcs = (0..readings).map(|_| parse_net(&text).map_or(0, |net| net.arcs.len())).min().unwrap_or(0);
+            println!("net: {arcs} arcs in each of {readings} readings");
+        }
+        "rules" => {
+            let net = parse_net(&fs::read(format!("{folder}/largest.net")).expect("a net text")).expect("a proper net");
+            let text = fs::read(format!("{folder}/largest.rules")).expect("a rules text");
+            let rules = (0..readings).map(|_| parse_rules(&net, &text).map_or(0, |rules| rules.len())).min().unwrap_or(0);
+            println!("rules: {rules} rules in each of {readings} readings");
+        }
         _ => println!("{part}: no such part"),
     }
 }

@@ -1,12 +1,15 @@
-// Makes many calls on plants and on a ledger as large as they come, for its time to be taken. It prints how many calls passed and
-// what stands at the end, which is the same on every run. Of the files beside it `turns` says how many turns each part takes, two
-// calls a turn, and `part` which one runs: table, bank, line, ledger or open, or all of them.
+// Makes many calls on plants and on a ledger as large as they come, and reads the largest texts, for its time to be taken. It prints how
+// many calls passed, what stands at the end and what was read, which is the same on every run. Of the files beside it `turns` says how
+// many turns each part takes, two calls a turn and one reading in 1,000 turns, and `part` which one runs: table, bank, line, ledger,
+// open, net or rules, or all of them.
 #![tactic(auto)]
 
 mod making;
+mod reading;
 mod turns;
 
 use crate::making::{full_ledger, make_bank, make_line, make_table};
+use crate::reading::{run_net, run_rules};
 use crate::turns::take_turns;
 use ledger::ledger::Ledger;
 use plant::plant::Plant;
@@ -55,6 +58,8 @@ fn run_part(rt: &HostRuntime, part: &str, turns: u32) -> io::Result<()> {
         "line" => run_plant(rt, part, make_line(rt)?, turns),
         "ledger" => run_ledger(rt, part, full_ledger(rt)?, 0, turns),
         "open" => run_ledger(rt, part, full_ledger(rt)?, 10, turns),
+        "net" => run_net(rt, turns),
+        "rules" => run_rules(rt, turns),
         _ => println!(rt; "{part}: no such part"),
     }
 }
@@ -66,7 +71,7 @@ fn run(rt: &HostRuntime) -> io::Result<()> {
     if part != "all" {
         return run_part(rt, part, turns);
     }
-    for each in ["table", "bank", "line", "ledger", "open"] {
+    for each in ["table", "bank", "line", "ledger", "open", "net", "rules"] {
         run_part(rt, each, turns)?;
     }
     Ok(())

@@ -16,9 +16,8 @@ where
     // its own that says that both may be made at each turn.
     for turn in 0..turns {
         let t = (turn % MOVES) as usize;
-        for answer in [make(subject, t), undo(subject, t)] {
-            passed = passed.saturating_add(u64::from(answer.is_ok()));
-        }
+        passed += u64::from(make(subject, t).is_ok());
+        passed += u64::from(undo(subject, t).is_ok());
     }
     passed
 }
