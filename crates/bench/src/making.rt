@@ -13,8 +13,9 @@ use std::{array, fs, io};
 use table::table::Table;
 
 // What is made of the net text at the path, or an error with these words where nothing can be made of it.
-// Kept: drills has the same function. A library crate for both would have to promise something; tried: an `Ok` answer was made by `make`
-// from a net that some text reads as. The check did not close `returns` without answers, and no program needs that fact.
+// Kept: drills has the same function and its three calls. A library crate for both would have to promise something; tried: an `Ok` answer
+// was made by `make` from a net that some text reads as. The check did not close `returns` without answers, and no program needs that
+// fact.
 fn made<P, F: FnOnce(&NetText) -> Option<P>>(
     rt: &HostRuntime,
     path: &str,

@@ -6,8 +6,9 @@ use plant::plant::Plant;
 use std::{fmt, io};
 
 // A call of a plant, with its move.
-// Kept: the program runs has the same enum. A library crate for both would have to promise, by a match on the call, what `make`
-// answers and leaves of the plant, and by `output` what `Display` writes: each would say again what the `match` below says.
+// Kept: the program runs has the same enum, print and loop over calls. A library crate for both would have to promise, by a match on
+// the call, what `make` answers and leaves of the plant, and by `output` what `Display` writes: each would say again what the `match`
+// below says.
 #[derive(Clone, Copy)]
 pub enum Firing {
     Begin(usize),

@@ -14,6 +14,7 @@ const SHOWN: Shown = Shown {
 };
 
 // A ledger straight on a plant, with no layer between: each order is asked for first.
+// Kept: beside `run_steps`, which asks nothing: the two share the `for` and the print of an answer.
 fn ask_and_run<P: Plant>(
     rt: &HostRuntime,
     ledger: &mut Ledger<P>,

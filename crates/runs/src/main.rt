@@ -10,9 +10,9 @@ use plant::plant::Plant;
 use std::{fmt, fs, io};
 
 // A call of a plant, with its move.
-// Kept: drills has the same enum. A library crate for both would have to promise, by a match on the call, what `make` answers and
-// leaves of the plant's net and tokens, and by `output` what `Display` writes: each would say again what the `match` below says, and
-// no program needs it.
+// Kept: drills has the same enum, print and loop over calls. A library crate for both would have to promise, by a match on the call, what
+// `make` answers and leaves of the plant's net and tokens, and by `output` what `Display` writes: each would say again what the `match`
+// below says, and no program needs it.
 #[derive(Clone, Copy)]
 enum Call {
     Begin(usize),
