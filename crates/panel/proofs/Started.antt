@@ -60,9 +60,6 @@ module _ (c : Cell) (n : Net) (free : ℕ → ℕ) (typed : Rule) (net : n ≡ c
       record { worked = there.0; works = there.1; built = there.2; promise = λ cs. promise_new (start_pile c) (new_ledger (start_pile c)) refl _ there.2 cs }
 
   module _ (orders : List ℕ) where
-    pub ran_refused : (f : TextFault) → Err f ≡ text_check orders → bad_line (codes "orders") f ≡ ran c orders
-    ran_refused f e = λ i. ran_on c orders (e i)
-
     module _ (fine : Ok tt ≡ text_check orders) where
       pub ran_unset : (f : Fault) → Err f ≡ monitor_answer (new_pile monitor n free) typed → bad_line (codes "fixed") (fault f.refusal 1 0) ≡ ran c orders
       ran_unset f e = (λ i. ran_with c orders ((e ∙ monitored) i)) ∙ (λ i. ran_on c orders (fine i))

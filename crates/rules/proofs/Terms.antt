@@ -22,9 +22,6 @@ incidence_small n s p t l = small (n.give p t) (n.take p t) (s.ground_arcs p t l
     small : (a b : ℕ) → a ≤ most_arc → b ≤ most_arc → nat_abs (pos a -ℤ pos b) ≤ most_arc
     small a b h k = omega (arith, ints)
 
-pub tokens_few : (n : Net) → Ranges n → (free : ℕ → ℕ) → ((p : ℕ) → free p ≤ n.limit p) → (p : ℕ) → p < n.ground_places → free p ≤ most_limit
-tokens_few n s free within p l = omega (arith, within p, (s.ground_limit p l).1)
-
 -- a weighted sum over the ground places, of what each changes by or holds
 module _ (w x : ℕ → ℤ) (weights : (p : ℕ) → nat_abs (w p) ≤ most_worked_weight) (ground_places : ℕ) (few : ground_places ≤ most_places)
     (each : (p : ℕ) → p < ground_places → nat_abs (x p) ≤ most_limit) where

@@ -117,9 +117,6 @@ module _ (s : Table) (t : ℕ) where
     abbrev r : (t < s.moves) × ((p : ℕ) → p < s.places → tokens_of s p + (net_of s).give p t ≤ (net_of s).limit p)
     r = fits (net_of s) (tokens_of s) (λ q. (net_of s).give q t) t e
 
-    pub finish_move : t < s.moves
-    finish_move = r.0
-
     pub finished_same : (p : ℕ) → p < s.places → have p + gave p ≡ tokens_of s p + (net_of s).give p t
     finished_same p l = omega (arith, give_in r.0 p l, free_in p l)
 
@@ -135,9 +132,6 @@ module _ (s : Table) (t : ℕ) where
   module _ (e : Ok tt ≡ back_answer (net_of s) (tokens_of s) t) where
     abbrev q : (t < s.moves) × ((p : ℕ) → p < s.places → tokens_of s p + (net_of s).take p t ≤ (net_of s).limit p)
     q = fits (net_of s) (tokens_of s) (λ q. (net_of s).take q t) t e
-
-    pub back_move : t < s.moves
-    back_move = q.0
 
     pub gone_back_same : (p : ℕ) → p < s.places → have p + took p ≡ tokens_of s p + (net_of s).take p t
     gone_back_same p l = omega (arith, take_in q.0 p l, free_in p l)
