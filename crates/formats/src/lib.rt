@@ -1,6 +1,7 @@
 #![tactic(auto)]
 
 ghost use Rattle.formats.specs.Laws.{NetExact, NetRefusals, NetDecided, RulesExact, RulesRefusals, RulesDecided};
+ghost use Rattle.formats.specs.Samples.{NetSamples, RulesSamples};
 ghost use Rattle.formats.specs.Sums.{SumExact, SumRefusals, WeightPush, WeightsIn};
 
 pub mod fault;
@@ -54,4 +55,10 @@ pub fn rules_text_decided()
 // A proper sum weighs each of the places with -99 to 99, and nothing else.
 pub fn weights_in()
     ensures { WeightsIn }
+{}
+
+// Some texts and sums, each with what reading it answers.
+pub fn samples_read()
+    ensures net { NetSamples }
+    ensures rules { RulesSamples }
 {}
