@@ -8,7 +8,6 @@ use Rattle.model.specs.Rule.{Rule, Worked}
 use Rattle.model.specs.Working.{work}
 use Rattle.model.specs.Layer.{Pile, monitor, board, plant_alone, with_layer, monitor_answer, in_force, Built}
 use Rattle.model.specs.Ledger.{Ledger, new_ledger, set_by}
-use Rattle.formats.specs.declared.fault.TextFault.{TextFault}
 use Rattle.formats.specs.declared.kind.Kind.{Kind}
 use Rattle.formats.specs.declared.kind.Kind.TheVariants.{Net as of_net, Bank, Line}
 use Rattle.formats.specs.NetText.{NetText}
@@ -18,6 +17,7 @@ use Rattle.ledger.proofs.Upheld.{promise_new}
 use Rattle.layers.specs.Piles.{new_pile}
 use Rattle.layers.specs.Stacking.{Stacked}
 use Rattle.texts.specs.Lines.{text_check}
+use Rattle.panel.proofs.Following.{follows}
 use Rattle.panel.specs.Prints.{bad_line}
 use Rattle.panel.specs.Cells.{Cell, net_by, plant_net}
 use Rattle.panel.specs.Orders.{start_monitor, start_pile, BuiltCell, answers, ran_with, ran_on, ran}
@@ -57,7 +57,7 @@ module _ (c : Cell) (n : Net) (free : ℕ → ℕ) (typed : Rule) (net : n ≡ c
   built_cell p s bare =
       let here : Of n free typed = (s.worked, s.works, subst (λ (q : Pile). Built q (in_force (with_layer monitor (plant_alone n free)) 0 typed s.worked ∷ [])) (stands p s) (s.built (subst (λ (m : Net). m.places ≡ m.ground_places) (sym net) bare))) in
       let there : Of c.net c.free c.typed_fixed = subst (λ (m : Net). Of m c.free c.typed_fixed) net (subst (λ (f : ℕ → ℕ). Of n f c.typed_fixed) tokens (subst (λ (t : Rule). Of n free t) rule here)) in
-      record { worked = there.0; works = there.1; built = there.2; promise = λ cs. promise_new (start_pile c) (new_ledger (start_pile c)) refl _ there.2 cs }
+      record { worked = there.0; works = there.1; built = there.2; promise = λ cs. promise_new (start_pile c) (new_ledger (start_pile c)) refl _ there.2 cs; follows = follows c (new_ledger (start_pile c)) }
 
   module _ (orders : List ℕ) where
     module _ (fine : Ok tt ≡ text_check orders) where

@@ -9,9 +9,11 @@
 --   answer_line      what is printed of an answer
 --   obeyed           what an order prints, on a ledger; next_ledger: the ledger after it
 --   answers          what a list of order lines prints, each meeting what its forerunners left
+--   calls_in, calls_of   the calls that an order makes, one or none, and those of a list of order lines
 --   start_monitor, start_pile   a fixed monitor on the cell's plant, blank; and a board on it after its rule is set
---   BuiltCell        the pile that the ledger is opened on is one that can be built, with the fixed rule in force, typed and worked, and
---                    the promise holds after every list of calls on it
+--   BuiltCell        the pile that the ledger is opened on is one that can be built, with the fixed rule in force, typed and worked; the
+--                    promise holds after every list of calls on it; and the order lines ys after the lines xs print what they print on the
+--                    ledger that the run of the calls of xs leaves, of which the promise speaks
 --   Started          where the orders pass the checks of the whole text and the fixed rule can be set, the pile is BuiltCell
 --   ran_with         what the orders print, by what setting the fixed rule answers
 --   ran_on           the same, by what the checks of the whole orders text answer
@@ -96,6 +98,16 @@ abbrev pub answers : Cell → Ledger → List (List ℕ) → List ℕ
 answers c l [] = []
 answers c l (x ∷ xs) = obeyed c l (order_of c (fields x)) ++ answers c (next_ledger l (order_of c (fields x))) xs
 
+abbrev pub calls_in : Order → List Call
+calls_in (a_call k) = k ∷ []
+calls_in (a_show p) = []
+calls_in no_shape = []
+calls_in no_name = []
+
+abbrev pub calls_of : Cell → List (List ℕ) → List Call
+calls_of c [] = []
+calls_of c (x ∷ xs) = calls_in (order_of c (fields x)) ++ calls_of c xs
+
 -- ---- a run
 abbrev pub start_monitor : Cell → Pile
 start_monitor c = with_layer monitor (plant_alone c.net c.free)
@@ -108,6 +120,7 @@ pub record BuiltCell (c : Cell) : Type 0 where
   pub works : work c.net c.typed_fixed ≡ Ok worked
   pub built : Built (start_pile c) (in_force (start_monitor c) 0 c.typed_fixed worked ∷ [])
   pub promise : (cs : List Call) → Promised (start_pile c) (in_force (start_monitor c) 0 c.typed_fixed worked ∷ []) cs (run (new_ledger (start_pile c)) cs)
+  pub follows : (xs ys : List (List ℕ)) → answers c (new_ledger (start_pile c)) (xs ++ ys) ≡ answers c (new_ledger (start_pile c)) xs ++ answers c (run (new_ledger (start_pile c)) (calls_of c xs)) ys
 
 abbrev pub Started : Cell → List ℕ → Type 0
 Started c orders = Ok tt ≡ text_check orders → Ok tt ≡ monitor_answer (start_monitor c) c.typed_fixed → BuiltCell c
