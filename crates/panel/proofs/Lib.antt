@@ -3,6 +3,7 @@ pub mod Shapes
 pub mod Fitting
 pub mod Plants
 pub mod Following
+pub mod Computed
 pub mod Started
 pub mod Making
 pub mod Same

@@ -4,3 +4,4 @@ pub mod Said
 pub mod Orders
 pub mod Asked
 pub mod Run
+pub mod Example
