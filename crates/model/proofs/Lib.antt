@@ -16,6 +16,8 @@ pub mod Reading
 pub mod Running
 pub mod JustSet
 pub mod CallsFire
+pub mod Numbers
+pub mod InOrder
 pub mod Exact
 pub mod StateEquation
 pub mod RowsStand

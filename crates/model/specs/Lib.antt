@@ -9,5 +9,6 @@ pub mod Layer
 pub mod Ledger
 pub mod Book
 pub mod Promise
+pub mod Order
 pub mod Laws
 pub mod Cases

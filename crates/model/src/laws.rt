@@ -1,5 +1,6 @@
 // The promise and the laws of the model, each as the contract of a function, so that the check asks for its proof.
 ghost use Rattle.model.specs.Promise.{Promise};
+ghost use Rattle.model.specs.Order.{CallsInOrder, NumbersApart, ShutExactly};
 ghost use Rattle.model.specs.Laws.{BeginFires, FinishFires, BackFires, BeginBack, BeginFinish, WorkingSays, IsRound, DivisorGcd, WorkDerives, WorkQuiets, WorkedImplies, WorkOnGround, LayerBegins, LayerMoves, LayerRanges, NewRows, AboveAll, SetRow, RefusedStill, CallsFire, AnswersAll, ReportIs, GrantsExact, ReportsExact, AdmitsExact, RowsAreRules, AllStanding, StateEquation};
 
 // After every list of calls on every pile that can be built: the book agrees with the ledger, each rule in force adds up to
@@ -89,6 +90,11 @@ pub fn layer_keeps()
     ensures { LayerRanges }
 {}
 
+// A layer is shut exactly where it has no rows, or there is no room for them.
+pub fn shut_exactly()
+    ensures { ShutExactly }
+{}
+
 // New rows have their numbers, no arcs and no tokens.
 pub fn new_rows()
     ensures { NewRows }
@@ -105,6 +111,16 @@ pub fn set_row()
 {}
 
 // ---- ledgers and books
+
+// No two refusals have the same number.
+pub fn numbers_apart()
+    ensures { NumbersApart }
+{}
+
+// Each call answers the first of its checks that refuses it, with its whole fault, at the lowest place; else it is accepted.
+pub fn calls_in_order()
+    ensures { CallsInOrder }
+{}
 
 // A refused call leaves the ledger as it was.
 pub fn refused_still()
