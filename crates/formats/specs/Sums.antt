@@ -10,7 +10,7 @@
 --   read_sum         the sum of a field that starts at a byte, or the refusal and its byte
 use Rattle.std.specs.Prelude.{◌≡◌, ℕ, ◌+◌, ◌^◌, ◌<◌, ◌≤◌, min, Bool, true, false, cond, ◌&&◌, ◌||◌, ◌⊎◌, List, [], ◌∷◌, ◌++◌, map, length, take, drop, ℤ, pos, ◌+ℤ◌, neg_ℤ, Some, None, Ok, Err, decimal, Option, Result, ◌==◌, nat_le, slice_index, slice_index_or, unsigned_abs}
 use Rattle.std.specs.List.{prefix_len, AllByRecursion}
-use Rattle.model.specs.Sizes.{factor_digits, most_weight}
+use Rattle.model.specs.Sizes.{name_tail, factor_digits, most_weight}
 use Rattle.model.specs.declared.refusal.Refusal.{Refusal}
 use Rattle.model.specs.declared.refusal.Refusal.TheVariants.{NameUnknown, Sum}
 use Rattle.formats.specs.Words.{none, Letter, IsName, Numeral, Known, is_letter, is_digit, is_numeral, is_known, value, index_of, AllDifferent}
@@ -110,7 +110,7 @@ abbrev pub body : List ℕ → List ℕ
 body p = drop (body_at p) p
 
 abbrev pub title : List ℕ → List ℕ
-title p = take (min 12 (prefix_len (λ c. is_letter c || is_digit c) (body p))) (body p)
+title p = take (min (name_tail + 1) (prefix_len (λ c. is_letter c || is_digit c) (body p))) (body p)
 
 abbrev pub left : List ℕ → List ℕ
 left p = drop (length (title p)) (body p)

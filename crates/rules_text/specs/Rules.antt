@@ -5,6 +5,7 @@
 --   rule_titles bs r   the names of the rules, the fixed one first, as parts of the text bs
 --   no_rule            what is read past the end of the rules
 use Rattle.std.specs.Prelude.{◌≡◌, ℕ, List, [], ◌∷◌, map, pos, replicate, vec_items}
+use Rattle.model.specs.Sizes.{most_places}
 use Rattle.formats.specs.RulesText as said
 use Rattle.texts.specs.Spans.{span, part_of}
 use Rattle.rules_text.specs.declared.rule.RuleLine.{RuleLine}
@@ -30,4 +31,4 @@ abbrev pub rule_titles : List ℕ → RulesText → List (List ℕ)
 rule_titles bs r = part_of bs r.fixed.name ∷ map (λ (l : RuleLine). part_of bs l.name) (vec_items r.others)
 
 abbrev pub no_rule : RuleLine
-no_rule = record { name = span 0 0; weights = replicate 32 (pos 0); bound = pos 0 }
+no_rule = record { name = span 0 0; weights = replicate most_places (pos 0); bound = pos 0 }

@@ -14,7 +14,7 @@
 --   SumRead ps k at f r    r are the weights of the field f, on line k at the byte `at`, over places of the names ps; or its refusal
 use Rattle.std.specs.Prelude.{◌≡◌, ℕ, ◌+◌, min, Bool, cond, not, ◌&&◌, ◌||◌, ◌==◌, nat_le, nat_lt, List, [], ◌∷◌, ◌++◌, length, take, drop, ℤ, pos, Some, None, Ok, Err, Option, Result, slice_index, slice_index_or}
 use Rattle.std.specs.List.{prefix_len}
-use Rattle.model.specs.Sizes.{factor_digits}
+use Rattle.model.specs.Sizes.{name_tail, factor_digits}
 use Rattle.model.specs.declared.refusal.Refusal.TheVariants.{NameUnknown, Sum}
 use Rattle.formats.specs.declared.fault.TextFault.{TextFault}
 use Rattle.formats.specs.Words.{none, is_letter, is_digit, is_numeral, is_known, value, index_of}
@@ -58,7 +58,7 @@ abbrev pub Rest : List ℕ → ℕ → ℕ → Type 0
 Rest f i j = (body (piece_at f i) ≡ piece_at f j) × (i + length (piece_at f i) ≡ j + length (piece_at f j))
 
 abbrev pub title_of : List ℕ → List ℕ
-title_of q = take (min 12 (prefix_len (λ c. is_letter c || is_digit c) q)) q
+title_of q = take (min (name_tail + 1) (prefix_len (λ c. is_letter c || is_digit c) q)) q
 
 abbrev pub name_checks : List (List ℕ) → ℕ → List ℕ → List Check
 name_checks ns at q = check (begins_name q) Sum at ∷ check (is_known ns (title_of q)) NameUnknown at ∷ []

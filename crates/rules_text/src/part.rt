@@ -1,7 +1,7 @@
 // One part of a sum: a number and a star, if it has them, and the name of a place.
 ghost use Rattle.std.specs.Prelude.{◌≡◌, ℕ, Bool, ◌+◌, ◌^◌, ◌<◌, ◌≤◌, length, drop, min, IfOk, IfSome};
 ghost use Rattle.std.specs.List.{prefix_len};
-ghost use Rattle.model.specs.Sizes.{most_places};
+ghost use Rattle.model.specs.Sizes.{most_places, name_tail};
 ghost use Rattle.formats.specs.NetText.{place_names};
 ghost use Rattle.formats.specs.Words.{is_digit, index_of};
 ghost use Rattle.formats.specs.Sums.{begins_name, body_at};
@@ -14,10 +14,10 @@ use model::refusal::Refusal;
 use model::sizes::FACTOR_DIGITS;
 use net_text::named_net::NamedNet;
 use texts::at::At;
-use texts::words::{is_digit, is_letter, is_word, number};
+use texts::words::{NAME_TAIL, is_digit, is_letter, is_word, number};
 
 // The most bytes that a name has.
-pub const MOST_NAME: usize = 12;
+pub const MOST_NAME: usize = NAME_TAIL + 1;
 
 // What stands next in a sum, by which it goes on.
 #[derive(Clone, Copy)]
@@ -113,7 +113,7 @@ impl SumReader<'_> {
     // Where the name from `start` on ends, which is as long as names can be at most.
     fn name_end(&self, start: usize) -> usize
         requires start_within { start ≤ length self.now.sum.now }
-        ensures value { result ≡ start + min 12 (prefix_len is_word (drop start self.now.sum.now)) }
+        ensures value { result ≡ start + min (name_tail + 1) (prefix_len is_word (drop start self.now.sum.now)) }
         ensures within { result ≤ length self.now.sum.now }
     {
         start + len_of(&self.sum[start..], is_word).min(MOST_NAME)
