@@ -18,7 +18,7 @@ row_of r = record { take = λ t. positive (slice_index_or r.raises t (pos 0)); g
 abbrev pub nothing : Row
 nothing = record { raises = []; free = 0; in_use = false }
 
-abbrev pub rows_of : List Row → ℕ → model.Row
+unfoldable pub rows_of : List Row → ℕ → model.Row
 rows_of rows r = row_of (slice_index_or rows r nothing)
 
 abbrev pub only : Row → ℕ → model.Row
