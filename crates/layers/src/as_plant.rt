@@ -30,35 +30,33 @@ impl<P: Plant, const N: usize> Plant for Layer<P, Table<N>> {
         }
     }
 
-    // Kept: a `match` here and in the next two. `or_else(|| self.rows_take(t).then(|| self.place_of(self.rows.short(t))).flatten())` proves
-    // too, but puts a closure in a closure for the two arms. One function of all three, given `self.rows.short(t)` as a value, would search
-    // the rows even where a place below is short or the move takes nothing from them.
-    #[tactic(auto, using(crate::proofs::Calls::short_is))]
     fn short_place(&self, t: usize) -> Option<usize> {
-        match self.below.short_place(t) {
-            None if self.rows_take(t) => self.place_of(self.rows.short(t)),
-            found => found,
-        }
+        self.or_row(
+            self.below.short_place(t),
+            self.rows_take(t),
+            |row| row.free < row.take(t),
+        )
     }
 
     fn over_by_give(&self, t: usize) -> Option<usize> {
-        match self.below.over_by_give(t) {
-            None if self.rows_give(t) => self.place_of(self.rows.over_by_give(t)),
-            found => found,
-        }
+        self.or_row(
+            self.below.over_by_give(t),
+            self.rows_give(t),
+            |row| row.goes_over(row.give(t)),
+        )
     }
 
     fn over_by_take(&self, t: usize) -> Option<usize> {
-        match self.below.over_by_take(t) {
-            None if self.rows_take(t) => self.place_of(self.rows.over_by_take(t)),
-            found => found,
-        }
+        self.or_row(
+            self.below.over_by_take(t),
+            self.rows_take(t),
+            |row| row.goes_over(row.take(t)),
+        )
     }
 
-    // Kept: this call and the next two. Tried: `fn call<B, F>(&mut self, counts: bool, below: B, rows: F)`, where `B` is an
-    // `FnOnce(&mut P) -> Result<(), Fault>` and `F` an `FnOnce(&mut Table<N>)`, takes five clauses, and with it the check left open each
-    // clause of `begin` and what the rows ask. A method of `Plant` that moves tokens unasked would be public with a `requires`, and no
-    // public function may have one where a refusal can stand.
+    // Kept: this call and the next two. A function of all three needs a bound `FnOnce(&mut Table<N>)`, and the check covers no bound of a
+    // closure that names a const parameter. A method of `Plant` that moves tokens unasked would be public with a `requires`, and no public
+    // function may have one where a refusal can stand.
     fn begin(&mut self, t: usize) -> Result<(), Fault>
         ensures answer { result ≡ begin_answer (⟦<Self as Net>⟧.net self.old) (⟦<Self as Plant>⟧.tokens self.old) t }
         ensures same { ⟦<Self as Net>⟧.net self.new ≡ ⟦<Self as Net>⟧.net self.old }

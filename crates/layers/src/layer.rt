@@ -1,10 +1,14 @@
 // A layer: rows put on a plant, and where their places are.
-ghost use Rattle.std.specs.Prelude.{◌≡◌, ℕ, ◌+◌, ◌<◌, ◌&&◌, not, nat_lt, option_map, IfSome};
+ghost use Rattle.std.specs.Prelude.{◌≡◌, ℕ, ◌+◌, ◌&&◌, Bool, not, nat_lt, option_map, if◌then◌else◌};
+ghost use Rattle.std.specs.Fn.{FnReturnsAt};
+ghost use Rattle.std.specs.Option.{option_or};
 ghost use Rattle.layers.specs.Layers.{own_row};
 ghost use Rattle.layers.specs.Piles.{Fresh};
-ghost use Rattle.layers.specs.Rows.{top_of};
-ghost use Rattle.model.specs.Layer.{is_shut, next_layer, row_count};
+ghost use Rattle.layers.specs.Rows.{rows_of, top_of, Tells};
+ghost use Rattle.model.specs.Layer.{Row as RowValue, is_shut, next_layer, row_count};
+ghost use Rattle.model.specs.Plant.{lowest};
 
+use crate::row::Row;
 use crate::table::Table;
 use model::sizes::MOST_ALL_PLACES;
 use plant::plant::Plant;
@@ -72,11 +76,19 @@ impl<P: Plant, const N: usize> Layer<P, Table<N>> {
         !self.is_shut() && t < self.below.moves()
     }
 
-    // The place of the row that was found, if one was.
-    pub(crate) fn place_of(&self, found: Option<usize>) -> Option<usize>
-        requires { IfSome found (λ r. r < row_count (top_of N)) }
-        ensures { result ≡ option_map (λ r. (P.Net.net self.now.below).places + r) found }
+    // The place that was found below, or else that of the lowest row that passes the test, if the rows count.
+    pub(crate) fn or_row<F: Fn(&Row) -> bool>(
+        &self,
+        found: Option<usize>,
+        counts: bool,
+        test: F,
+    ) -> Option<usize>
+        requires { F.IsAlwaysCallable test }
+        ensures { (f : RowValue → Bool) → Tells (FnReturnsAt F.Fn test) f → result ≡ option_or found (if counts then option_map (λ r. (P.Net.net self.now.below).places + r) (lowest (λ r. f (rows_of self.now.rows.rows r)) 0 (row_count (top_of N))) else None) }
     {
-        Some(self.below.places() + found?)
+        match found {
+            None if counts => Some(self.below.places() + self.rows.lowest(test)?),
+            found => found,
+        }
     }
 }

@@ -1,10 +1,11 @@
 // A table of so many rows, and what no value of it is without.
 #![tactic(auto, unfolding(crate::specs::Rows::rows_of))]
 
-ghost use Rattle.std.specs.Prelude.{◌≡◌, ℕ, ◌+◌, ◌-◌, ◌<◌, ◌≤◌, pos, nat_lt, length, slice_index_or, unsigned_abs};
+ghost use Rattle.std.specs.Prelude.{◌≡◌, ℕ, ◌+◌, ◌-◌, ◌<◌, ◌≤◌, Bool, pos, IfSome, length, slice_index_or, unsigned_abs};
+ghost use Rattle.std.specs.Fn.{FnReturnsAt};
 ghost use Rattle.layers.specs.Kept.{Kept};
-ghost use Rattle.layers.specs.Rows.{rows_of, rule_row, top_of};
-ghost use Rattle.model.specs.Layer.{blank, row_count, row_with, change_row};
+ghost use Rattle.layers.specs.Rows.{rows_of, rule_row, top_of, Tells};
+ghost use Rattle.model.specs.Layer.{Row as RowValue, blank, row_count, row_with, change_row};
 ghost use Rattle.model.specs.Plant.{lowest};
 ghost use Rattle.model.specs.Sizes.{control_limit, most_control_arc};
 
@@ -75,25 +76,13 @@ impl<const N: usize> Table<N> {
         self.rows[r].set_rule(raises, free);
     }
 
-    // The lowest row that has fewer tokens than the move `t` takes there.
-    pub(crate) fn short(&self, t: usize) -> Option<usize>
-        ensures { result ≡ lowest (λ r. nat_lt (rows_of self.now.rows r).free ((rows_of self.now.rows r).take t)) 0 (row_count (top_of N)) }
+    // The lowest row that passes the test.
+    pub(crate) fn lowest<F: Fn(&Row) -> bool>(&self, test: F) -> Option<usize>
+        requires { F.IsAlwaysCallable test }
+        ensures within { IfSome result (λ r. r < row_count (top_of N)) }
+        ensures told { (f : RowValue → Bool) → Tells (FnReturnsAt F.Fn test) f → result ≡ lowest (λ r. f (rows_of self.now.rows r)) 0 (row_count (top_of N)) }
     {
-        self.rows.iter().position(|row| row.free < row.take(t))
-    }
-
-    // The lowest row that would go over its limit by what the move `t` gives there.
-    pub(crate) fn over_by_give(&self, t: usize) -> Option<usize>
-        ensures { result ≡ lowest (λ r. nat_lt control_limit ((rows_of self.now.rows r).free + (rows_of self.now.rows r).give t)) 0 (row_count (top_of N)) }
-    {
-        self.rows.iter().position(|row| row.goes_over(row.give(t)))
-    }
-
-    // The lowest row that would go over its limit by what the move `t` takes there.
-    pub(crate) fn over_by_take(&self, t: usize) -> Option<usize>
-        ensures { result ≡ lowest (λ r. nat_lt control_limit ((rows_of self.now.rows r).free + (rows_of self.now.rows r).take t)) 0 (row_count (top_of N)) }
-    {
-        self.rows.iter().position(|row| row.goes_over(row.take(t)))
+        self.rows.iter().position(test)
     }
 
     // Takes from each row what the move `t` takes there.
