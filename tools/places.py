@@ -81,7 +81,7 @@ def main():
         if re.search(r"for \w+ in (?!.*(\.\.|enumerate))[^\n]*\{\n\s*if [^\n]*\{\n\s*return", body)])
     show("4 an Option or a Result taken apart and put together again", lines(r"None => None|None => Err\(|Some\(\w+\) => (Ok|Some)\("))
     show("4 functions that print, compare or convert by hand", lines(r"fn (same|typed|call|print_\w+|put_number|row_name)\b"))
-    for word in ["cell_said ", "net_of net_text.now net.now", "net_of text.now net.now", "(net_of bs net.now)", "ledger_of (", "pile_of R.Rows.top", "board_pile P", "monitor_pile P"]:
+    for word in ["cell_said ", "net_of net_text.now net.now", "net_of text.now net.now", "(net_of bs net.now)", "ledger_of (", "pile_of P.Net.net", "board_pile P", "monitor_pile P"]:
         show("5 functions with `%s` in a clause" % word, clauses(word))
     show("6 arrays in structs", lines(r"^\s*(pub(\(crate\))? )?\w+: \[\w+; \w+\],?$"))
     show("7 matches on an own enum without values, or on which step", lines(r"match (side|verb|case|before|end|firing|order|call|\*call|state)\b"))

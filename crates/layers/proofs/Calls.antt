@@ -12,6 +12,7 @@ use Rattle.model.specs.Sizes.{control_limit}
 use Rattle.model.proofs.Checks.{else_ok, lowest_all_fail, lowest_ext, lowest_none, refuse_at_ok}
 use Rattle.model.proofs.Layering.{own_row, not_own, open_net, open_free, net_opens, net_shuts, free_opens, free_shuts}
 use Rattle.plant.proofs.Answering.{known_in, passed}
+use Rattle.layers.specs.Kept.{Kept}
 
 -- ---- one search in two parts
 split : (f : ℕ → Bool) (i j a b : ℕ) → i + a ≡ j → lowest f i (a + b) ≡ option_or (lowest f i a) (lowest f j b)
@@ -85,7 +86,7 @@ module _ (size : ℕ) (n : Net) (free : ℕ → ℕ) (rows : ℕ → Row) (t : �
       (λ r l. ap₂ ltb (at_row (λ r. (rows r).free) free r l) (at_row (λ r. masked_take n (rows r) t) (λ p. n.take p t) r l))
       (λ r l. le-ltb (rows r).free 0 (omega arith))
 
-  module _ (low : (r : ℕ) → (rows r).free ≤ control_limit) where
+  module _ (kept : (r : ℕ) → Kept (rows r)) where
     over_is : (arcs : Net → ℕ → ℕ) (own : ℕ → ℕ) (c : Bool)
         → ((p : ℕ) → p < n.places → arcs (open_net size n rows) p ≡ arcs n p) → ((r : ℕ) → r < size → arcs (open_net size n rows) (n.places + r) ≡ cond c (own r) 0)
         → over_place (layer_net size n rows) (layer_free size n free rows) (arcs (layer_net size n rows))
@@ -93,7 +94,7 @@ module _ (size : ℕ) (n : Net) (free : ℕ → ℕ) (rows : ℕ → Row) (t : �
     over_is arcs own c below here = finds (λ m f p. ltb (m.limit p) (f p + arcs m p)) (λ b r. ltb control_limit ((rows r).free + cond b (own r) 0)) c
         (λ p l. ap₂ ltb (at_place (λ r. control_limit) n.limit p l) (ap₂ (λ (a b : ℕ). a + b) (at_place (λ r. (rows r).free) free p l) (below p l)))
         (λ r l. ap₂ ltb (at_row (λ r. control_limit) n.limit r l) (ap₂ (λ (a b : ℕ). a + b) (at_row (λ r. (rows r).free) free r l) (here r l)))
-        (λ r l. le-ltb control_limit ((rows r).free + 0) (omega (arith, low r)))
+        (λ r l. le-ltb control_limit ((rows r).free + 0) (omega (arith, (kept r).low)))
 
     pub over_give_is : over_place (layer_net size n rows) (layer_free size n free rows) (λ p. (layer_net size n rows).give p t)
         ≡ option_or (over_place n free (λ p. n.give p t)) (rows_place (not (is_shut size n) && ltb t n.moves) (λ r. ltb control_limit ((rows r).free + (rows r).give t)))
@@ -126,15 +127,15 @@ module _ (size : ℕ) (n : Net) (free : ℕ → ℕ) (rows : ℕ → Row) (t : �
       let a = accepted Short (λ r. ltb (rows r).free ((rows r).take t)) takes _ (short_place n free t) short_is ok in
       (a.0, λ e r l. ltb-false (rows r).free ((rows r).take t) (a.1 e r l))
 
-  module _ (low : (r : ℕ) → (rows r).free ≤ control_limit) where
+  module _ (kept : (r : ℕ) → Kept (rows r)) where
     pub finishes : Ok tt ≡ finish_answer (layer_net size n rows) (layer_free size n free rows) t
         → (Ok tt ≡ finish_answer n free t) × (true ≡ gives → (r : ℕ) → r < size → (rows r).free + (rows r).give t ≤ control_limit)
     finishes ok =
-        let a = accepted OverLimit (λ r. ltb control_limit ((rows r).free + (rows r).give t)) gives _ (over_place n free (λ p. n.give p t)) (over_give_is low) ok in
+        let a = accepted OverLimit (λ r. ltb control_limit ((rows r).free + (rows r).give t)) gives _ (over_place n free (λ p. n.give p t)) (over_give_is kept) ok in
         (a.0, λ e r l. ltb-false control_limit ((rows r).free + (rows r).give t) (a.1 e r l))
 
     pub goes_back : Ok tt ≡ back_answer (layer_net size n rows) (layer_free size n free rows) t
         → (Ok tt ≡ back_answer n free t) × (true ≡ takes → (r : ℕ) → r < size → (rows r).free + (rows r).take t ≤ control_limit)
     goes_back ok =
-        let a = accepted OverLimit (λ r. ltb control_limit ((rows r).free + (rows r).take t)) takes _ (over_place n free (λ p. n.take p t)) (over_take_is low) ok in
+        let a = accepted OverLimit (λ r. ltb control_limit ((rows r).free + (rows r).take t)) takes _ (over_place n free (λ p. n.take p t)) (over_take_is kept) ok in
         (a.0, λ e r l. ltb-false control_limit ((rows r).free + (rows r).take t) (a.1 e r l))

@@ -1,4 +1,5 @@
 pub mod Rowwise
+pub mod Firsts
 pub mod Calls
 pub mod Fresh
 pub mod Raising

@@ -21,6 +21,7 @@ Changed value was i is = record {
 
 -- the row values after the loop; a missing row has no tokens before and after
 pub all_changed : (value : model.Row → ℕ) (was is : List Row) (i : ℕ) → value blank ≡ 0 → length was ≤ i → Changed value was i is → rows_of is ≡ (λ r. row_with (rows_of was r) (value (rows_of was r)))
+unfolding rows_of
 all_changed value was is i none all c = λ j r. at r j
   where
     at : (r : ℕ) → rows_of is r ≡ row_with (rows_of was r) (value (rows_of was r))

@@ -27,6 +27,7 @@ kept_rule raises free l small = record { one_way = λ t h. grind (arith, ints); 
 
 -- ---- one row of a table
 pub rows_set : (rows : List Row) (r : ℕ) (x : Row) → r < length rows → rows_of (slice_set rows r x) ≡ change_row (rows_of rows) r (row_of x)
+unfolding rows_of
 rows_set rows r x l = λ j i. at i j
   where
     at : (i : ℕ) → rows_of (slice_set rows r x) i ≡ cond (i == r) (row_of x) (rows_of rows i)
@@ -39,10 +40,12 @@ pub kept_change : (rows : ℕ → model.Row) (r : ℕ) (new : model.Row) → ((i
 kept_change rows r new all here i = cond_both (i == r) new (rows i) Kept (λ e. here) (λ e. all i)
 
 pub rows_past : (rows : List Row) (r : ℕ) → length rows ≤ r → rows_of rows r ≡ blank
+unfolding rows_of
 rows_past rows r l = ap row_of (get_or_past rows r nothing l)
 
 -- ---- the one row of a monitor
 pub only_rows : (row : Row) → rows_of (row ∷ []) ≡ only row
+unfolding rows_of
 only_rows row = λ j r. at r j
   where
     at : (r : ℕ) → rows_of (row ∷ []) r ≡ only row r
@@ -71,6 +74,7 @@ only_blank row e = λ j r. at (r == 0) j
     at false = refl
 
 pub rows_blank : (n : ℕ) (row : Row) → row_of row ≡ blank → rows_of (replicate n row) ≡ (λ r. blank)
+unfolding rows_of
 rows_blank n row e = λ j r. at r j
   where
     at : (r : ℕ) → rows_of (replicate n row) r ≡ blank

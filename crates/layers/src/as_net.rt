@@ -3,22 +3,23 @@ ghost use Rattle.std.specs.Prelude.{◌≡◌, ℕ};
 ghost use Rattle.model.specs.Layer.{layer_net, row_count};
 ghost use Rattle.model.proofs.LayerCalls.{layer_keeps};
 ghost use Rattle.layers.specs.Layered.{layer_layered};
+ghost use Rattle.layers.specs.Rows.{rows_of, top_of};
 
 use crate::layer::Layer;
-use crate::rows::Rows;
+use crate::table::Table;
 use model::sizes::CONTROL_LIMIT;
 use plant::net::Net;
 use plant::plant::Plant;
 
 // The ground places and the moves are those below; the control places of the rows come after all places below.
-impl<P: Plant, R: Rows> Net for Layer<P, R> {
-    ghost net = { λ s. layer_net (row_count R.Rows.top) (P.Net.net s.below) (R.Rows.rows s.rows) };
+impl<P: Plant, const N: usize> Net for Layer<P, Table<N>> {
+    ghost net = { λ s. layer_net (row_count (top_of N)) (P.Net.net s.below) (rows_of s.rows.rows) };
 
     ghost sound = { λ s.
-        layer_keeps (row_count R.Rows.top) (P.Net.net s.below) (R.Rows.rows s.rows) (P.Net.sound s.below)
-        (λ r t l. ((R.Rows.kept s.rows r).small_takes t, (R.Rows.kept s.rows r).small_gives t)) };
+        layer_keeps (row_count (top_of N)) (P.Net.net s.below) (rows_of s.rows.rows) (P.Net.sound s.below)
+        (λ r t l. ((s.rows.kept r).small_takes t, (s.rows.kept r).small_gives t)) };
 
-    ghost layered = { λ s p. layer_layered (row_count R.Rows.top) (P.Net.net s.below) (R.Rows.rows s.rows) (P.Net.sound s.below) (P.Net.layered s.below) p };
+    ghost layered = { λ s p. layer_layered (row_count (top_of N)) (P.Net.net s.below) (rows_of s.rows.rows) (P.Net.sound s.below) (P.Net.layered s.below) p };
 
     fn ground(&self) -> usize {
         self.below.ground()
@@ -40,8 +41,8 @@ impl<P: Plant, R: Rows> Net for Layer<P, R> {
         self.below.controllable(t)
     }
 
-    // Kept: a `match` here and in `give`, where the other form is `map_or_else(|| self.below.take(p, t), |r| if .. { .. } else { 0 })`:
-    // the guard becomes an `if` in a closure, and the three cases no longer stand one below the other.
+    // Kept: a `match` on the row here, in the next four and in `free`. With `map_or_else(|| self.below.limit(p), ..)` each closure needs an
+    // `ensures`: the check reads nothing off a closure that holds a layer of `Table<N>`. In `take` and `give` a guard would become an `if`.
     fn take(&self, p: usize, t: usize) -> u32 {
         match self.own_row(p) {
             Some(r) if self.below.controllable(t) => self.rows.take(r, t),
@@ -59,16 +60,23 @@ impl<P: Plant, R: Rows> Net for Layer<P, R> {
     }
 
     fn limit(&self, p: usize) -> u32 {
-        self.own_row(p)
-            .map_or_else(|| self.below.limit(p), |_| CONTROL_LIMIT)
+        match self.own_row(p) {
+            Some(_) => CONTROL_LIMIT,
+            None => self.below.limit(p),
+        }
     }
 
     fn layer(&self, p: usize) -> usize {
-        self.own_row(p)
-            .map_or_else(|| self.below.layer(p), |_| self.next_layer())
+        match self.own_row(p) {
+            Some(_) => self.next_layer(),
+            None => self.below.layer(p),
+        }
     }
 
     fn row(&self, p: usize) -> usize {
-        self.own_row(p).unwrap_or_else(|| self.below.row(p))
+        match self.own_row(p) {
+            Some(r) => r,
+            None => self.below.row(p),
+        }
     }
 }

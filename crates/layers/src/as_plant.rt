@@ -2,68 +2,67 @@
 // layer has blank rows, so each call says besides that it leaves those of a shut layer alone.
 ghost use Rattle.std.specs.Prelude.{◌≡◌, ℕ, true, if◌then◌else◌};
 ghost use Rattle.layers.specs.Piles.{pile_of};
+ghost use Rattle.layers.specs.Rows.{rows_of, top_of};
 ghost use Rattle.model.specs.Layer.{is_shut, layer_free, row_count, pile_begun, pile_finished, pile_gone_back};
 ghost use Rattle.model.specs.Plant.{accepted, begin_answer, finish_answer, back_answer, begun, finished, gone_back};
 ghost use Rattle.layers.specs.Shut.{same_net, same_free};
 ghost use Rattle.std.proofs.Common.{rules};
 
 use crate::layer::Layer;
-use crate::rows::Rows;
+use crate::table::Table;
 use model::fault::Fault;
 use plant::net::Net;
 use plant::plant::Plant;
 
-impl<P: Plant, R: Rows> Plant for Layer<P, R> {
-    ghost tokens = { λ s. layer_free (row_count R.Rows.top) (P.Net.net s.below) (P.Plant.tokens s.below) (R.Rows.rows s.rows) };
+impl<P: Plant, const N: usize> Plant for Layer<P, Table<N>> {
+    ghost tokens = { λ s. layer_free (row_count (top_of N)) (P.Net.net s.below) (P.Plant.tokens s.below) (rows_of s.rows.rows) };
 
-    ghost pile = { λ s. pile_of R.Rows.top P.Net.net P.Plant.tokens R.Rows.rows s };
+    ghost pile = { λ s. pile_of P.Net.net P.Plant.tokens s };
 
-    ghost stacked = { λ s. (same_net (row_count R.Rows.top) (P.Net.net s.below) (R.Rows.rows s.rows), same_free (row_count R.Rows.top) (P.Net.net s.below) (R.Rows.rows s.rows) (P.Plant.tokens s.below)) };
+    ghost stacked = { λ s. (same_net (row_count (top_of N)) (P.Net.net s.below) (rows_of s.rows.rows), same_free (row_count (top_of N)) (P.Net.net s.below) (rows_of s.rows.rows) (P.Plant.tokens s.below)) };
 
     ghost within = { Prim.search rules };
 
     fn free(&self, p: usize) -> u32 {
-        self.own_row(p)
-            .map_or_else(|| self.below.free(p), |r| self.rows.free(r))
+        match self.own_row(p) {
+            Some(r) => self.rows.free(r),
+            None => self.below.free(p),
+        }
     }
 
-    // Kept: a `match` here and in the next two. `or_else(|| self.rows_take(t).then(|| self.place_of(self.rows.short(t))).flatten())` proves
-    // too, but puts a closure in a closure for the two arms. One function of all three, given `self.rows.short(t)` as a value, would search
-    // the rows even where a place below is short or the move takes nothing from them.
-    #[tactic(auto, using(crate::proofs::Calls::short_is))]
     fn short_place(&self, t: usize) -> Option<usize> {
-        match self.below.short_place(t) {
-            None if self.rows_take(t) => self.place_of(self.rows.short(t)),
-            found => found,
-        }
+        self.or_row(
+            self.below.short_place(t),
+            self.rows_take(t),
+            |row| row.free < row.take(t),
+        )
     }
 
-    #[tactic(auto, using(crate::proofs::Calls::over_give_is))]
     fn over_by_give(&self, t: usize) -> Option<usize> {
-        match self.below.over_by_give(t) {
-            None if self.rows_give(t) => self.place_of(self.rows.over_by_give(t)),
-            found => found,
-        }
+        self.or_row(
+            self.below.over_by_give(t),
+            self.rows_give(t),
+            |row| row.goes_over(row.give(t)),
+        )
     }
 
-    #[tactic(auto, using(crate::proofs::Calls::over_take_is))]
     fn over_by_take(&self, t: usize) -> Option<usize> {
-        match self.below.over_by_take(t) {
-            None if self.rows_take(t) => self.place_of(self.rows.over_by_take(t)),
-            found => found,
-        }
+        self.or_row(
+            self.below.over_by_take(t),
+            self.rows_take(t),
+            |row| row.goes_over(row.take(t)),
+        )
     }
 
-    // Kept: this call and the next two. Tried: `fn call<B, F>(&mut self, counts: bool, below: B, rows: F)`, where `B` is an
-    // `FnOnce(&mut P) -> Result<(), Fault>` and `F` an `FnOnce(&mut R)`, takes five clauses, and with it the check left open each
-    // clause of `begin` and what the rows ask. A method of `Plant` that moves tokens unasked would be public with a `requires`, and no
-    // public function may have one where a refusal can stand.
+    // Kept: this call and the next two. A function of all three needs a bound `FnOnce(&mut Table<N>)`, and the check covers no bound of a
+    // closure that names a const parameter. A method of `Plant` that moves tokens unasked would be public with a `requires`, and no public
+    // function may have one where a refusal can stand.
     fn begin(&mut self, t: usize) -> Result<(), Fault>
         ensures answer { result ≡ begin_answer (⟦<Self as Net>⟧.net self.old) (⟦<Self as Plant>⟧.tokens self.old) t }
         ensures same { ⟦<Self as Net>⟧.net self.new ≡ ⟦<Self as Net>⟧.net self.old }
         ensures after { ⟦<Self as Plant>⟧.tokens self.new ≡ begun (⟦<Self as Net>⟧.net self.old) (⟦<Self as Plant>⟧.tokens self.old) t }
         ensures whole { ⟦<Self as Plant>⟧.pile self.new ≡ (if accepted result then pile_begun (⟦<Self as Plant>⟧.pile self.old) t else ⟦<Self as Plant>⟧.pile self.old) }
-        ensures shut { is_shut (row_count R.Rows.top) (P.Net.net self.old.below) ≡ true → R.Rows.rows self.new.rows ≡ R.Rows.rows self.old.rows }
+        ensures shut { is_shut (row_count (top_of N)) (P.Net.net self.old.below) ≡ true → rows_of self.new.rows.rows ≡ rows_of self.old.rows.rows }
     {
         self.may_begin(t)?;
         self.below.begin(t)?;
@@ -78,7 +77,7 @@ impl<P: Plant, R: Rows> Plant for Layer<P, R> {
         ensures same { ⟦<Self as Net>⟧.net self.new ≡ ⟦<Self as Net>⟧.net self.old }
         ensures after { ⟦<Self as Plant>⟧.tokens self.new ≡ finished (⟦<Self as Net>⟧.net self.old) (⟦<Self as Plant>⟧.tokens self.old) t }
         ensures whole { ⟦<Self as Plant>⟧.pile self.new ≡ (if accepted result then pile_finished (⟦<Self as Plant>⟧.pile self.old) t else ⟦<Self as Plant>⟧.pile self.old) }
-        ensures shut { is_shut (row_count R.Rows.top) (P.Net.net self.old.below) ≡ true → R.Rows.rows self.new.rows ≡ R.Rows.rows self.old.rows }
+        ensures shut { is_shut (row_count (top_of N)) (P.Net.net self.old.below) ≡ true → rows_of self.new.rows.rows ≡ rows_of self.old.rows.rows }
     {
         self.may_finish(t)?;
         self.below.finish(t)?;
@@ -93,7 +92,7 @@ impl<P: Plant, R: Rows> Plant for Layer<P, R> {
         ensures same { ⟦<Self as Net>⟧.net self.new ≡ ⟦<Self as Net>⟧.net self.old }
         ensures after { ⟦<Self as Plant>⟧.tokens self.new ≡ gone_back (⟦<Self as Net>⟧.net self.old) (⟦<Self as Plant>⟧.tokens self.old) t }
         ensures whole { ⟦<Self as Plant>⟧.pile self.new ≡ (if accepted result then pile_gone_back (⟦<Self as Plant>⟧.pile self.old) t else ⟦<Self as Plant>⟧.pile self.old) }
-        ensures shut { is_shut (row_count R.Rows.top) (P.Net.net self.old.below) ≡ true → R.Rows.rows self.new.rows ≡ R.Rows.rows self.old.rows }
+        ensures shut { is_shut (row_count (top_of N)) (P.Net.net self.old.below) ≡ true → rows_of self.new.rows.rows ≡ rows_of self.old.rows.rows }
     {
         self.may_back(t)?;
         self.below.back(t)?;

@@ -1,73 +1,28 @@
 // A layer: rows put on a plant, and where their places are.
-ghost use Rattle.std.specs.Prelude.{◌≡◌, ℕ, ◌+◌, ◌<◌, ◌&&◌, not, nat_lt, option_map, IfSome};
+ghost use Rattle.std.specs.Prelude.{◌≡◌, ℕ, ◌+◌, ◌&&◌, Bool, not, nat_lt, option_map, if◌then◌else◌};
+ghost use Rattle.std.specs.Fn.{FnReturnsAt};
+ghost use Rattle.std.specs.Option.{option_or};
 ghost use Rattle.layers.specs.Layers.{own_row};
-ghost use Rattle.model.specs.Layer.{is_shut, next_layer, row_count};
+ghost use Rattle.layers.specs.Piles.{Fresh};
+ghost use Rattle.layers.specs.Rows.{rows_of, top_of, Tells};
+ghost use Rattle.model.specs.Layer.{Row as RowValue, is_shut, next_layer, row_count};
+ghost use Rattle.model.specs.Plant.{lowest};
 
-use crate::rows::Rows;
+use crate::row::Row;
 use crate::table::Table;
 use model::sizes::MOST_ALL_PLACES;
 use plant::plant::Plant;
 
 // Any plant, and the rows whose control places stand after its places.
+// Kept: the type of the rows is a parameter, though each is a `Table<N>`. Of a `Layer<P, const N: usize>` each call of a monitor has to
+// show that it fits in memory, which is not known over just any plant `P`.
 #[derive(Drop)]
 pub struct Layer<P, R> {
     pub(crate) below: P,
     pub(crate) rows: R,
 }
 
-impl<P: Plant, R: Rows> Layer<P, R> {
-    // Whether there is no room for the rows: then the layer adds no place.
-    pub(crate) fn is_shut(&self) -> bool
-        ensures { result ≡ is_shut (row_count R.Rows.top) (P.Net.net self.now.below) }
-    {
-        self.below.places() + self.rows.count() > MOST_ALL_PLACES
-    }
-
-    // The row that has the place `p`, if it is the place of a row.
-    pub(crate) fn own_row(&self, p: usize) -> Option<usize>
-        ensures { result ≡ own_row (row_count R.Rows.top) (P.Net.net self.now.below) p }
-    {
-        let r = p.checked_sub(self.below.places())?;
-        (!self.is_shut() && r < self.rows.count()).then_some(r)
-    }
-
-    // The number of this layer: one above the highest below.
-    pub(crate) fn next_layer(&self) -> usize
-        ensures { result ≡ next_layer (P.Net.net self.now.below).places (P.Net.net self.now.below).layer }
-    {
-        (0..self.below.places())
-            .map(|p| self.below.layer(p) + 1)
-            .max()
-            .unwrap_or(1)
-    }
-
-    // Whether the move `t` may take from the rows: a shut layer has none, and an uncontrollable move takes nothing there.
-    pub(crate) fn rows_take(&self, t: usize) -> bool
-        ensures { result ≡ (not (is_shut (row_count R.Rows.top) (P.Net.net self.now.below)) && (P.Net.net self.now.below).controllable t) }
-    {
-        !self.is_shut() && self.below.controllable(t)
-    }
-
-    // Whether the move `t` may give to the rows: a shut layer has none, and a missing move gives nothing.
-    pub(crate) fn rows_give(&self, t: usize) -> bool
-        ensures { result ≡ (not (is_shut (row_count R.Rows.top) (P.Net.net self.now.below)) && nat_lt t (P.Net.net self.now.below).moves) }
-    {
-        !self.is_shut() && t < self.below.moves()
-    }
-
-    // The place of the row that was found, if one was.
-    pub(crate) fn place_of(&self, found: Option<usize>) -> Option<usize>
-        requires { IfSome found (λ r. r < row_count R.Rows.top) }
-        ensures { result ≡ option_map (λ r. (P.Net.net self.now.below).places + r) found }
-    {
-        found.map(|r| self.below.places() + r)
-    }
-}
-
 impl<P: Plant, const N: usize> Layer<P, Table<N>> {
-    ghost use Rattle.layers.specs.Piles.{Fresh};
-    ghost use Rattle.layers.specs.Rows.{top_of};
-
     // A layer over the plant, of rows without rules.
     pub(crate) fn blank(below: P) -> Self
         requires { row_count (top_of N) ≡ N }
@@ -77,6 +32,63 @@ impl<P: Plant, const N: usize> Layer<P, Table<N>> {
         Layer {
             below,
             rows: Table::blank(),
+        }
+    }
+
+    // Whether there is no room for the rows: then the layer adds no place.
+    pub(crate) fn is_shut(&self) -> bool
+        ensures { result ≡ is_shut (row_count (top_of N)) (P.Net.net self.now.below) }
+    {
+        self.below.places() + self.rows.count() > MOST_ALL_PLACES
+    }
+
+    // The row that has the place `p`, if it is the place of a row.
+    pub(crate) fn own_row(&self, p: usize) -> Option<usize>
+        ensures { result ≡ own_row (row_count (top_of N)) (P.Net.net self.now.below) p }
+    {
+        let r = p.checked_sub(self.below.places())?;
+        (!self.is_shut() && r < self.rows.count()).then_some(r)
+    }
+
+    // The number of this layer: one above the highest below.
+    // Kept: `below` has a name, so that the closure does not hold the layer: off one that does the check reads nothing.
+    pub(crate) fn next_layer(&self) -> usize
+        ensures { result ≡ next_layer (P.Net.net self.now.below).places (P.Net.net self.now.below).layer }
+    {
+        let below = &self.below;
+        (0..below.places())
+            .map(|p| below.layer(p) + 1)
+            .max()
+            .unwrap_or(1)
+    }
+
+    // Whether the move `t` may take from the rows: a shut layer has none, and an uncontrollable move takes nothing there.
+    pub(crate) fn rows_take(&self, t: usize) -> bool
+        ensures { result ≡ (not (is_shut (row_count (top_of N)) (P.Net.net self.now.below)) && (P.Net.net self.now.below).controllable t) }
+    {
+        !self.is_shut() && self.below.controllable(t)
+    }
+
+    // Whether the move `t` may give to the rows: a shut layer has none, and a missing move gives nothing.
+    pub(crate) fn rows_give(&self, t: usize) -> bool
+        ensures { result ≡ (not (is_shut (row_count (top_of N)) (P.Net.net self.now.below)) && nat_lt t (P.Net.net self.now.below).moves) }
+    {
+        !self.is_shut() && t < self.below.moves()
+    }
+
+    // The place that was found below, or else that of the lowest row that passes the test, if the rows count.
+    pub(crate) fn or_row<F: Fn(&Row) -> bool>(
+        &self,
+        found: Option<usize>,
+        counts: bool,
+        test: F,
+    ) -> Option<usize>
+        requires { F.IsAlwaysCallable test }
+        ensures { (f : RowValue → Bool) → Tells (FnReturnsAt F.Fn test) f → result ≡ option_or found (if counts then option_map (λ r. (P.Net.net self.now.below).places + r) (lowest (λ r. f (rows_of self.now.rows.rows r)) 0 (row_count (top_of N))) else None) }
+    {
+        match found {
+            None if counts => Some(self.below.places() + self.rows.lowest(test)?),
+            found => found,
         }
     }
 }

@@ -8,6 +8,5 @@ pub mod layer;
 pub mod monitor;
 pub mod pile;
 pub mod row;
-mod rows;
 mod setting;
 pub mod table;

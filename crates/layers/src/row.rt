@@ -1,9 +1,10 @@
 // A row of a layer, plain: what keeps it in order is with the rows that hold it.
-ghost use Rattle.std.specs.Prelude.{◌≡◌, pos, slice_index_or};
+ghost use Rattle.std.specs.Prelude.{◌≡◌, ◌+◌, pos, nat_lt, slice_index_or};
 ghost use Rattle.layers.specs.Rows.{row_of, rule_row};
 ghost use Rattle.model.specs.Layer.{blank};
+ghost use Rattle.model.specs.Sizes.{control_limit};
 
-use model::sizes::MOST_MOVES;
+use model::sizes::{CONTROL_LIMIT, MOST_MOVES};
 
 // By how much each move raises the rule, the tokens that are free, and whether a rule is set.
 // Kept: `in_use` is no `Option` of the arcs and the tokens: the project asks for twelve plain row structs in a board, and of a row without
@@ -46,6 +47,13 @@ impl Row {
         ensures { result ≡ (row_of self.now).give t }
     {
         self.raise(t).min(0).unsigned_abs()
+    }
+
+    // Whether so many tokens more would go over the limit.
+    pub(crate) fn goes_over(&self, added: u32) -> bool
+        ensures { result ≡ nat_lt control_limit ((row_of self.now).free + added) }
+    {
+        self.free.saturating_add(added) > CONTROL_LIMIT
     }
 
     // Makes this the row of a rule, by what each move raises it, with so many tokens.

@@ -1,5 +1,6 @@
 // Setting a row of a layer to a rule.
 ghost use Rattle.std.specs.Prelude.{◌≡◌, ℕ, ◌<◌, ◌≤◌, pos, Ok, Err, slice_index_or, unsigned_abs};
+ghost use Rattle.layers.specs.Rows.{top_of};
 ghost use Rattle.layers.specs.Setting.{Checks, SetTo};
 ghost use Rattle.model.specs.Layer.{row_count, top_answer};
 ghost use Rattle.model.specs.Rule.{raise as raise_of};
@@ -7,7 +8,7 @@ ghost use Rattle.model.specs.Sizes.{most_control_arc};
 ghost use Rattle.rules.specs.Rules.{rule_of, worked_of, answer_of};
 
 use crate::layer::Layer;
-use crate::rows::Rows;
+use crate::table::Table;
 use model::fault::Fault;
 use model::refusal::Refusal;
 use model::sizes::MOST_MOVES;
@@ -26,7 +27,7 @@ fn raises<N: Net>(rule: &WorkedRule, net: &N) -> [i32; MOST_MOVES]
     array::from_fn(|t| rule.raise(net, t))
 }
 
-impl<P: Plant, R: Rows> Layer<P, R> {
+impl<P: Plant, const N: usize> Layer<P, Table<N>> {
     // Whether the row `r` has a rule; a missing row has none, and a shut layer has no rows.
     pub(crate) fn row_in_use(&self, r: usize) -> bool
         ensures { result ≡ ((⟦<Self as Plant>⟧.pile self.now).rows r).in_use }
@@ -49,7 +50,7 @@ impl<P: Plant, R: Rows> Layer<P, R> {
     // Kept: `below` and `refused` stand here, in `Board::set` and in `Monitor::set`: those two are public and promise them to callers, and
     // the check of each knows of this call only what is said here.
     pub(crate) fn set_row(&mut self, r: usize, typed: &TypedRule) -> Result<(), Fault>
-        requires { r < row_count R.Rows.top }
+        requires { r < row_count (top_of N) }
         ensures answer { result ≡ top_answer (⟦<Self as Plant>⟧.pile self.old) r (rule_of typed.now) }
         ensures below { self.new.below ≡ self.old.below }
         ensures refused { (f : Fault) → result ≡ Err f → self.new ≡ self.old }

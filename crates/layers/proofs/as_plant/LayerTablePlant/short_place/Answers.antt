@@ -1,0 +1,11 @@
+use Rattle.std.proofs.Common.{ltb, rules, tests}
+use Rattle.model.specs.Layer.{Row, row_count}
+use Rattle.layers.specs.Rows.{rows_of, top_of}
+use Rattle.layers.proofs.Calls.{short_is}
+use Rattle.layers.proofs.as_plant.LayerTablePlant.short_place.Goals as goal
+
+pub returns : goal.returns
+returns g c =
+    let s = c.args.self.now in
+    let told = c.or_row.ensures (λ (x : Row). ltb x.free (x.take c.args.t)) (λ row b k. search (rules, tests)) in
+    cc (told, short_is (row_count (top_of g.row.N)) (g.P.Net.net s.below) (g.P.Plant.tokens s.below) (rows_of s.rows.rows) c.args.t)
