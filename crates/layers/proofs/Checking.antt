@@ -29,9 +29,6 @@ module _ (p : Pile) (r : ℕ) (typed : Rule) (clear : is_shut (row_count p.top) 
       ap (holds_now p.below p.below_free) e
       ∙ sym (ap₂ (λ (s u : Bool). refuse_unless (not s) (setting_fault Shut) else_by refuse_unless (not u) (setting_fault RowInUse) else_by holds_now p.below p.below_free (work p.below typed)) clear unused)
 
-  pub not_worked : (f : Fault) → Err f ≡ work p.below typed → Checks p r typed (Err f)
-  not_worked f e = record { answer = settled (Err f) e; works = λ w h. sym e ∙ h }
-
   module _ (w : Worked) (e : Ok w ≡ work p.below typed) (spare : ℤ) (is : spare ≡ w.bound -ℤ weighted_free p.below w.weight p.below_free) (f : Fault) (told : f ≡ setting_fault Broken) where
     judged : (a : Answer) → a ≡ refuse_unless (le_z (pos 0) spare) f → a ≡ top_answer p r typed
     judged a h =

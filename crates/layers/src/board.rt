@@ -2,7 +2,8 @@
 ghost use Rattle.std.specs.Prelude.{◌≡◌, ℕ, Ok, Err};
 ghost use Rattle.layers.specs.Piles.{Fresh};
 ghost use Rattle.layers.specs.Setting.{SetTo};
-ghost use Rattle.model.specs.Layer.{board, board_answer};
+ghost use Rattle.layers.specs.Rows.{rows_of};
+ghost use Rattle.model.specs.Layer.{blank, board, board_answer};
 ghost use Rattle.rules.specs.Rules.{rule_of};
 
 use crate::layer::Layer;
@@ -20,6 +21,7 @@ impl<P: Plant> Board<P> {
     // A board over the plant, with no rules yet.
     pub fn new(below: P) -> Self
         ensures below { result.below ≡ below }
+        ensures blank { rows_of result.rows.rows ≡ (λ r. blank) }
         ensures fresh { Fresh board (P.Net.net below) (P.Plant.tokens below) (⟦<Self as Plant>⟧.pile result) }
     {
         Self::blank(below)

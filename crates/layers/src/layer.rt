@@ -5,7 +5,7 @@ ghost use Rattle.std.specs.Option.{option_or};
 ghost use Rattle.layers.specs.Layers.{own_row};
 ghost use Rattle.layers.specs.Piles.{Fresh};
 ghost use Rattle.layers.specs.Rows.{rows_of, top_of, Tells};
-ghost use Rattle.model.specs.Layer.{Row as RowValue, is_shut, next_layer, row_count};
+ghost use Rattle.model.specs.Layer.{Row as RowValue, blank, is_shut, next_layer, row_count};
 ghost use Rattle.model.specs.Plant.{lowest};
 
 use crate::row::Row;
@@ -27,6 +27,7 @@ impl<P: Plant, const N: usize> Layer<P, Table<N>> {
     pub(crate) fn blank(below: P) -> Self
         requires { row_count (top_of N) ≡ N }
         ensures below { result.below ≡ below }
+        ensures blank { rows_of result.rows.rows ≡ (λ r. blank) }
         ensures fresh { Fresh (top_of N) (P.Net.net below) (P.Plant.tokens below) (⟦<Self as Plant>⟧.pile result) }
     {
         Layer {

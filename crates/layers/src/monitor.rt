@@ -2,7 +2,8 @@
 ghost use Rattle.std.specs.Prelude.{◌≡◌, ℕ, Ok, Err};
 ghost use Rattle.layers.specs.Piles.{Fresh};
 ghost use Rattle.layers.specs.Setting.{SetTo};
-ghost use Rattle.model.specs.Layer.{monitor, monitor_answer};
+ghost use Rattle.model.specs.Layer.{blank, monitor, monitor_answer};
+ghost use Rattle.layers.specs.Rows.{rows_of};
 ghost use Rattle.rules.specs.Rules.{rule_of};
 
 use crate::layer::Layer;
@@ -18,6 +19,7 @@ impl<P: Plant> Monitor<P> {
     // A monitor over the plant, with no rule yet.
     pub fn new(below: P) -> Self
         ensures below { result.below ≡ below }
+        ensures blank { rows_of result.rows.rows ≡ (λ r. blank) }
         ensures fresh { Fresh monitor (P.Net.net below) (P.Plant.tokens below) (⟦<Self as Plant>⟧.pile result) }
     {
         Self::blank(below)
