@@ -45,5 +45,5 @@ known_in {i = i} f xs ys b k n e is = go (is_name n) (is_known (map f xs) n) (lt
   where
     go : (c d : Bool) → (d ≡ true → index_of (map f xs) n < length (map f xs)) → Ok i ≡ unless (cond c (cond d None (Some (check d NameUnknown b))) (Some (check c Field b))) k (Ok (index_of (map f xs) n)) → i < length ys
     go true true r q = let same : i ≡ index_of (map f xs) n = cc in omega (arith, r refl, length-map xs f, ap length is)
-    go true false r q = let z : ◌≡◌ {A = ℕ} 0 1 = cc in absurd (omega arith)
-    go false d r q = let z : ◌≡◌ {A = ℕ} 0 1 = cc in absurd (omega arith)
+    go true false r q = absurd (cc)
+    go false d r q = absurd (cc)

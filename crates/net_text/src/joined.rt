@@ -9,9 +9,9 @@ use model::sizes::{MOST_MOVES, MOST_PLACES};
 const MOST_PAIRS: usize = MOST_PLACES * MOST_MOVES;
 
 // The pairs that arcs join, so that one is asked for by one look-up.
+// Kept: one array, move by move; of an array of arrays a proof is not told how long its rows are, and a ghost field would have to say it.
 #[derive(Drop)]
 pub(crate) struct Joined {
-    // move by move
     pairs: [bool; MOST_PAIRS],
 }
 

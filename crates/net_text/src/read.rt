@@ -1,7 +1,7 @@
 // Reads the lines of a net text, by the order of checks.
 ghost use Rattle.std.specs.Prelude.{◌≡◌, ◌+◌, ◌^◌, ◌<◌, ◌≤◌, [], ◌∷◌, length, codes, vec_items, IfOk};
-ghost use Rattle.model.specs.Sizes.{most_places, most_moves};
 ghost use Rattle.std.specs.Str.{bytes_eq};
+ghost use Rattle.model.specs.Sizes.{most_places, most_moves};
 ghost use Rattle.model.specs.declared.refusal.Refusal.TheVariants.{NoRecord, TooMany};
 ghost use Rattle.formats.specs.Words.{value, index_of};
 ghost use Rattle.formats.specs.Texts.{check};

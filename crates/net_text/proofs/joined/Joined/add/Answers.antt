@@ -1,6 +1,7 @@
-use Rattle.std.proofs.Common.{rules}
-use Rattle.net_text.proofs.Joining.{marked}
+use Rattle.std.proofs.Common.{arith}
+use Rattle.std.proofs.lemmas.Bool.Decides.{nat_tests}
+use Rattle.std.proofs.lemmas.Grind.{common_steps}
 use Rattle.net_text.proofs.joined.Joined.add.Goals as goal
 
 pub returns : goal.returns
-returns c = λ p t h. marked c.args.self.now.pairs c.args.place c.args.transition p t c.requires.0 c.requires.1 h (search rules)
+returns c = λ p t h. grind (arith, common_steps, nat_tests)

@@ -1,10 +1,10 @@
 use Rattle.std.proofs.Common.{◌+◌, ◌<◌, length, arith}
-use Rattle.net_text.specs.Nets.{net_of}
-use Rattle.texts.proofs.Checking.{passed_on}
 use Rattle.model.specs.Sizes.{most_places, most_moves}
-use Rattle.texts.specs.Spans.{part_of}
 use Rattle.net_text.specs.declared.net.Place.{Place}
 use Rattle.net_text.specs.declared.net.Move.{Move}
+use Rattle.net_text.specs.Nets.{net_of}
+use Rattle.texts.specs.Spans.{part_of}
+use Rattle.texts.proofs.Checking.{passed_on}
 use Rattle.net_text.proofs.Names.{knows_place, knows_move, known_in}
 use Rattle.net_text.proofs.ArcLines.{no_place, no_move, no_weights, no_pair, arc_fits}
 use Rattle.net_text.proofs.read.NetReader.read_arc.Goals as goal
