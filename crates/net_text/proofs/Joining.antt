@@ -1,5 +1,6 @@
 -- The pairs of a place and a move that arcs join.
-use Rattle.std.proofs.Common.{◌≡◌, ℕ, ◌<◌, not, ◌&&◌, ◌||◌, eqb, List, [], ◌∷◌, ◌++◌, map, get_or, replicate, arith}
+use Rattle.std.proofs.Common.{◌≡◌, ℕ, ◌+◌, ◌*◌, ◌<◌, Bool, true, false, not, ◌&&◌, ◌||◌, eqb, List, [], ◌∷◌, ◌++◌, map, length, get_or, set, replicate, arith}
+use Rattle.std.proofs.lemmas.Bool.Decides.{nat_tests}
 use Rattle.std.proofs.lemmas.Grind.{common_steps}
 use Rattle.model.specs.Sizes.{most_places}
 use Rattle.formats.specs.ReadNet.{is_new_pair}
@@ -11,6 +12,10 @@ use Rattle.net_text.specs.Joined.{has, Marks}
 -- each of n is v, and so is what is read past them
 pub same_all : {A : Type 0} (n i : ℕ) (v : A) → get_or (replicate n v) i v ≡ v
 same_all n i v = grind (arith, common_steps)
+
+-- one pair more
+pub marked : (bs : List Bool) (p t q u : ℕ) → p < 32 → q < 32 → t * 32 + p < length bs → get_or (set bs (t * 32 + p) true) (u * 32 + q) false ≡ (get_or bs (u * 32 + q) false || (eqb p q && eqb t u))
+marked bs p t q u l m n = grind (arith, common_steps, nat_tests)
 
 -- one arc more
 new_more : (xs : List Arc) (a : Arc) (p t : ℕ) → is_new_pair (map arc_of (xs ++ (a ∷ []))) p t ≡ (is_new_pair (map arc_of xs) p t && not (eqb a.place p && eqb a.transition t))
