@@ -14,7 +14,7 @@ pub same_all : {A : Type 0} (n i : ℕ) (v : A) → get_or (replicate n v) i v �
 same_all n i v = grind (arith, common_steps)
 
 -- one pair more
-pub marked : (bs : List Bool) (p t q u : ℕ) → p < 32 → q < 32 → t * 32 + p < length bs → get_or (set bs (t * 32 + p) true) (u * 32 + q) false ≡ (get_or bs (u * 32 + q) false || (eqb p q && eqb t u))
+pub marked : (bs : List Bool) (p t q u : ℕ) → p < most_places → q < most_places → t * most_places + p < length bs → get_or (set bs (t * most_places + p) true) (u * most_places + q) false ≡ (get_or bs (u * most_places + q) false || (eqb p q && eqb t u))
 marked bs p t q u l m n = grind (arith, common_steps, nat_tests)
 
 -- one arc more
