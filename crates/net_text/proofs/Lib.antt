@@ -3,3 +3,4 @@ pub mod ArcLines
 pub mod Adding
 pub mod Standing
 pub mod Whole
+pub mod Joining

@@ -1,7 +1,11 @@
 -- The names of the places and moves that were read.
-use Rattle.std.proofs.Common.{◌≡◌, ℕ, ◌&&◌, List, ◌++◌, map, vec_items, Result, sym, ap, ◌∙◌, ap₂}
+use Rattle.std.proofs.Common.{◌≡◌, ℕ, ◌<◌, Bool, true, false, cond, ◌&&◌, List, ◌++◌, map, length, Some, None, Ok, vec_items, Result, refl, sym, ap, ◌∙◌, ap₂, arith}
+use Rattle.std.proofs.lemmas.List.{length-map}
+use Rattle.std.proofs.lemmas.Bool.{ltb-true}
+use Rattle.model.specs.declared.refusal.Refusal.TheVariants.{Field, NameUnknown}
 use Rattle.formats.specs.declared.fault.TextFault.{TextFault}
-use Rattle.formats.specs.Words.{is_new, index_of}
+use Rattle.formats.specs.Words.{is_name, is_new, is_known, index_of}
+use Rattle.formats.specs.Texts.{check, unless}
 use Rattle.formats.specs.ReadNet.{known_checks}
 use Rattle.formats.specs.NetText as value
 use Rattle.formats.specs.NetText.{names, place_names, move_names}
@@ -34,3 +38,12 @@ pub knows_move : {r : Result ℕ TextFault} (bs : List ℕ) (x : NetText) (ms : 
 knows_move bs x ms b k f e is =
     let by = λ (ns : List (List ℕ)). checked (known_checks ns b f) k (index_of ns f) in
     e ∙ ap (λ (qs : List Move). by (map (λ (m : Move). part_of bs m.name) qs)) is ∙ sym (ap by (moves_of bs x))
+
+-- what is known of the items by their names is one of them
+pub known_in : {X : Type 0} {i : ℕ} (f : X → List ℕ) (xs ys : List X) (b k : ℕ) (n : List ℕ) → Ok i ≡ checked (known_checks (map f xs) b n) k (index_of (map f xs) n) → xs ≡ ys → i < length ys
+known_in {i = i} f xs ys b k n e is = go (is_name n) (is_known (map f xs) n) (ltb-true (index_of (map f xs) n) (length (map f xs))) e
+  where
+    go : (c d : Bool) → (d ≡ true → index_of (map f xs) n < length (map f xs)) → Ok i ≡ unless (cond c (cond d None (Some (check d NameUnknown b))) (Some (check c Field b))) k (Ok (index_of (map f xs) n)) → i < length ys
+    go true true r q = let same : i ≡ index_of (map f xs) n = cc in omega (arith, r refl, length-map xs f, ap length is)
+    go true false r q = absurd (cc)
+    go false d r q = absurd (cc)

@@ -1,3 +1,4 @@
 pub mod Filled
+pub mod Joined
 pub mod Nets
 pub mod Reading

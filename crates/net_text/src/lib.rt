@@ -2,6 +2,7 @@
 #![tactic(auto)]
 
 pub mod filled;
+pub mod joined;
 pub mod named;
 pub mod named_net;
 pub mod net;

@@ -1,15 +1,16 @@
 // Reads the lines of a net text, by the order of checks.
-ghost use Rattle.std.specs.Prelude.{◌≡◌, ◌+◌, ◌^◌, ◌<◌, [], ◌∷◌, map, length, codes};
+ghost use Rattle.std.specs.Prelude.{◌≡◌, ◌+◌, ◌^◌, ◌<◌, ◌≤◌, [], ◌∷◌, length, codes, vec_items, IfOk};
 ghost use Rattle.std.specs.Str.{bytes_eq};
+ghost use Rattle.model.specs.Sizes.{most_places, most_moves};
 ghost use Rattle.model.specs.declared.refusal.Refusal.TheVariants.{NoRecord, TooMany};
 ghost use Rattle.formats.specs.Words.{value, index_of};
 ghost use Rattle.formats.specs.Texts.{check};
 ghost use Rattle.formats.specs.NetText.{place_names, move_names};
-ghost use Rattle.formats.specs.ReadNet.{name_checks, kind_checks, place_line_checks, count_checks, place_checks, move_line_checks, letter_checks, move_checks, weight_checks, pair_checks, arc_checks, kind_of, is_new_pair};
-ghost use Rattle.net_text.specs.Nets.{arc_of};
-ghost use Rattle.net_text.specs.Reading.{so_far};
+ghost use Rattle.formats.specs.ReadNet.{name_checks, kind_checks, place_line_checks, count_checks, place_checks, move_line_checks, letter_checks, move_checks, weight_checks, pair_checks, arc_checks, kind_of};
+ghost use Rattle.net_text.specs.Joined.{Marks};
 ghost use Rattle.texts.specs.Spans.{span, checked};
 
+use crate::joined::Joined;
 use crate::named_net::NamedNet;
 use crate::net::{Arc, Move, NetText, Place};
 use formats::fault::TextFault;
@@ -20,11 +21,15 @@ use texts::at::At;
 use texts::span::Span;
 use texts::words::is_name;
 
-// A net text, and the net that its lines so far say.
+// A net text, the net that its lines so far say, and which place and move its arcs join.
 #[derive(Drop)]
 pub(crate) struct NetReader<'a> {
     pub(crate) text: &'a [u8],
     pub(crate) net: NetText,
+    pub(crate) joined: Joined,
+    ghost few_places: { length (vec_items net.places) ≤ most_places },
+    ghost few_moves: { length (vec_items net.moves) ≤ most_moves },
+    ghost marks: { Marks joined (vec_items net.arcs) },
 }
 
 // The kind of plant that a field names.
@@ -84,14 +89,9 @@ fn check_turn(at: At, in_order: bool, has_room: bool) -> Result<(), TextFault>
     at.check(has_room, Refusal::TooMany, at.byte)
 }
 
-// Whether no arc joins the place and the move yet.
-fn is_new_pair(arcs: &[Arc], place: usize, transition: usize) -> bool
-    ensures { result ≡ is_new_pair (map arc_of arcs.now) place transition }
-{
-    arcs.iter().all(|arc| !(arc.place == place && arc.transition == transition))
-}
-
 impl<'a> NetReader<'a> {
+    ghost use Rattle.net_text.specs.Reading.{so_far};
+
     // Refuses a field that is no name, or one that a place or a move has.
     fn check_new_name(&self, field: &[u8], at: At, byte: usize) -> Result<(), TextFault>
         ensures { result ≡ checked (name_checks (so_far self.now) byte field.now) at.line tt }
@@ -125,10 +125,11 @@ impl<'a> NetReader<'a> {
 
     // An arc joins a place and a move once, and only in a plant of the kind net.
     fn check_pair(&self, at: At, place: usize, transition: usize) -> Result<(), TextFault>
+        requires { (place < most_places) × (transition < most_moves) }
         ensures { result ≡ checked (pair_checks (so_far self.now) at.byte place transition) at.line tt }
     {
         at.check(
-            is_new_pair(&self.net.arcs, place, transition),
+            !self.joined.has(place, transition),
             Refusal::ArcNotAllowed,
             at.byte,
         )?;
@@ -192,7 +193,8 @@ impl<'a> NetReader<'a> {
         give: &[u8],
     ) -> Result<Arc, TextFault>
         requires { at.byte + 4 + length place.now + 1 + length transition.now + 1 + length take.now + 1 < 2 ^ 64 }
-        ensures { result ≡ checked (arc_checks (so_far self.now) at.byte place.now transition.now take.now give.now) at.line (record { place = index_of (place_names (so_far self.now)) place.now; transition = index_of (move_names (so_far self.now)) transition.now; take = value take.now; give = value give.now }) }
+        ensures answer { result ≡ checked (arc_checks (so_far self.now) at.byte place.now transition.now take.now give.now) at.line (record { place = index_of (place_names (so_far self.now)) place.now; transition = index_of (move_names (so_far self.now)) transition.now; take = value take.now; give = value give.now }) }
+        ensures inside { IfOk result (λ a. (a.place < most_places) × (a.transition < most_moves)) }
     {
         let place_at = at.byte + 4;
         let p = at.known(&self.net.places, self.text, place, place_at)?;

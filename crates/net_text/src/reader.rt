@@ -13,6 +13,7 @@ ghost use Rattle.texts.specs.Walking.{numbered_lines, read_on, lines_left};
 ghost use Rattle.net_text.specs.Nets.{net_of};
 ghost use Rattle.net_text.specs.Reading.{so_far, LineAdded, plant_read, end_read, Stands, Located, line_count, NetRead};
 
+use crate::joined::Joined;
 use crate::net::NetText;
 use crate::read::{NetReader, read_kind};
 use formats::fault::TextFault;
@@ -68,6 +69,7 @@ impl<'a> NetReader<'a> {
     {
         let arc = self.read_arc(at, place, transition, take, give)?;
         self.net.arcs.push(arc)?;
+        self.joined.add(arc.place, arc.transition);
         Ok(())
     }
 
@@ -186,7 +188,8 @@ pub fn read_net(heap: Global, text: &[u8]) -> Result<NetText, ReadError>
         moves: Vec::new(heap),
         arcs: Vec::new(heap),
     };
-    let mut reader = NetReader { text, net };
+    let joined = Joined::none();
+    let mut reader = NetReader { text, net, joined };
     reader.read_lines(lines)?;
     reader.check_end()?;
     Ok(reader.net)
