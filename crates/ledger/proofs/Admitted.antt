@@ -1,14 +1,13 @@
 -- A ledger after its board was asked to set a row, while no grant is open.
-use Rattle.std.proofs.Common.{◌≡◌, ℕ, ◌<◌, max, Bool, true, false, ◌==◌, Ok, Err, sym, ap, ◌∙◌, refl, subst, arith, eqb-true}
+use Rattle.std.proofs.Common.{◌≡◌, ℕ, true, false, cond, ◌==◌, Ok, Err, sym, ap, ◌∙◌, refl, subst, eqb-true}
 use Rattle.model.specs.declared.refusal.Refusal.TheVariants.{GrantsOpen}
 use Rattle.model.specs.declared.fault.Fault.{Fault}
-use Rattle.model.specs.Net.{Net, sum}
+use Rattle.model.specs.Net.{Net}
 use Rattle.model.specs.Plant.{Answer, ◌else_by◌, setting_fault, refuse_unless}
 use Rattle.model.specs.Rule.{Rule}
 use Rattle.model.specs.Layer.{Row, Pile, pile_net, is_shut, layer_net, row_count, with_rule, board_answer}
-use Rattle.model.specs.Ledger.{admit, open_count, reserved, set_by, answer, next}
-use Rattle.model.proofs.Sums.{le_sum, sum_none}
-use Rattle.model.proofs.Layering.{net_opens, net_shuts}
+use Rattle.model.specs.Ledger.{admit, open_count, set_by, answer, next}
+use Rattle.model.proofs.Layering.{open_net}
 use Rattle.model.proofs.Standing.{refused_still}
 use Rattle.model.proofs.Checks.{refuse_unless_ok}
 use Rattle.layers.specs.Setting.{SetTo}
@@ -16,31 +15,11 @@ use Rattle.ledger.specs.declared.grants.Grants.{Grants}
 use Rattle.ledger.specs.Grants.{opened, Tallied}
 use Rattle.ledger.specs.Ledgers.{ledger_of}
 use Rattle.ledger.proofs.Asked.{next_answers, next_done}
+use Rattle.ledger.proofs.Counting.{tally_idle}
 
--- what rows hold says nothing of the moves and the places of their layer
-module _ (size : ℕ) (n : Net) (rows rows' : ℕ → Row) where
-  same_sizes : (b : Bool) → is_shut size n ≡ b → ((layer_net size n rows').moves ≡ (layer_net size n rows).moves) × ((layer_net size n rows').places ≡ (layer_net size n rows).places)
-  same_sizes true e =
-      let a : layer_net size n rows' ≡ layer_net size n rows = net_shuts size n rows' e ∙ sym (net_shuts size n rows e) in
-      (ap (λ (m : Net). m.moves) a, ap (λ (m : Net). m.places) a)
-  same_sizes false e = (
-    ap (λ (m : Net). m.moves) (net_opens size n rows' e) ∙ sym (ap (λ (m : Net). m.moves) (net_opens size n rows e)),
-    ap (λ (m : Net). m.places) (net_opens size n rows' e) ∙ sym (ap (λ (m : Net). m.places) (net_opens size n rows e)),
-  )
-
--- with no grant open, the tally is that of every net with the same moves and places
-tally_idle : (n m : Net) (g : Grants) → m.moves ≡ n.moves → m.places ≡ n.places → g.total ≡ 0 → Tallied n g → Tallied m g
-tally_idle n m g moves places idle t = record {
-  total_is = t.total_is ∙ ap (λ k. sum k (opened g.counts)) (sym moves);
-  few = t.few;
-  reserved_is = λ p l. t.reserved_is p (subst (λ k. p < k) places l) ∙ none_reserved n refl p ∙ sym (none_reserved m moves p);
-}
-  where
-    none_open : (u : ℕ) → u < n.moves → opened g.counts u ≡ 0
-    none_open u l = omega (arith, le_sum n.moves (opened g.counts) u l, t.total_is)
-
-    none_reserved : (k : Net) → k.moves ≡ n.moves → (p : ℕ) → reserved k (opened g.counts) p ≡ 0
-    none_reserved k e p = sum_none k.moves (opened g.counts) (λ u. max (k.take p u) (k.give p u)) (λ u l. none_open u (subst (λ j. u < j) e l))
+-- what rows hold says nothing of the places of their layer
+same_places : (size : ℕ) (n : Net) (rows rows' : ℕ → Row) → (layer_net size n rows').places ≡ (layer_net size n rows).places
+same_places size n rows rows' = elim (is_shut size n) as (λ b. (cond b n (open_net size n rows')).places ≡ (cond b n (open_net size n rows)).places) [ true ↦ refl | false ↦ refl ]
 
 module _ (p : Pile) (g : Grants) (tallied : Tallied (pile_net p) g) (r : ℕ) (typed : Rule) where
   -- refused while a grant is open: nothing is changed
@@ -69,12 +48,11 @@ module _ (p : Pile) (g : Grants) (tallied : Tallied (pile_net p) g) (r : ℕ) (t
         none : g.total ≡ 0
         none = eqb-true g.total 0 (refuse_unless_ok (g.total == 0) (setting_fault GrantsOpen) (sym idle))
 
-        kept : (x : Pile) → q ≡ x → (pile_net x).moves ≡ (pile_net p).moves → (pile_net x).places ≡ (pile_net p).places → Tallied (pile_net q) g
-        kept x e moves places = subst (λ (y : Pile). Tallied (pile_net y) g) (sym e) (tally_idle (pile_net p) (pile_net x) g moves places none tallied)
+        kept : (x : Pile) → q ≡ x → (pile_net x).places ≡ (pile_net p).places → Tallied (pile_net q) g
+        kept x e places = subst (λ (y : Pile). Tallied (pile_net y) g) (sym e) (tally_idle (pile_net p) (pile_net x) g places none tallied)
 
         go : (b : Answer) → a ≡ b → Tallied (pile_net q) g
         go (Ok u) e =
             let s : SetTo p q r typed = set e in
-            let same = same_sizes (row_count p.top) p.below p.rows (with_rule p r s.worked).rows (is_shut (row_count p.top) p.below) refl in
-            kept (with_rule p r s.worked) s.pile same.0 same.1
-        go (Err f) e = kept p (refused f e) refl refl
+            kept (with_rule p r s.worked) s.pile (same_places (row_count p.top) p.below p.rows (with_rule p r s.worked).rows)
+        go (Err f) e = kept p (refused f e) refl

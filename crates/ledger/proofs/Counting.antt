@@ -1,5 +1,5 @@
 -- The sums over open grants, when one more is open or one fewer.
-use Rattle.std.proofs.Common.{◌≡◌, ℕ, ◌+◌, ◌*◌, ◌<◌, ◌≤◌, max, ap, sym, refl, ◌∙◌, inl, inr, arith, slice_index, slice_set, replicate, length, List, map, cond, ◌==◌, ◌-◌, zero, suc, le_trans, mul-le-mul, add-one}
+use Rattle.std.proofs.Common.{◌≡◌, ℕ, ◌+◌, ◌*◌, ◌<◌, ◌≤◌, max, ap, sym, refl, ◌∙◌, inl, inr, arith, slice_index, slice_set, replicate, length, List, map, cond, true, false, ◌==◌, ◌-◌, zero, suc, subst, le_trans, mul-le-mul, add-one}
 use Rattle.std.specs.List.{range_with_len}
 use Rattle.std.specs.List as lists
 use Rattle.std.proofs.lemmas.List.FromFn.{map-range_with_len_more}
@@ -12,7 +12,7 @@ use Rattle.model.specs.Ledger.{open_count, reserved, taken, plus_one, minus_one}
 use Rattle.ledger.specs.declared.grants.Grants.{Grants}
 use Rattle.ledger.specs.Grants.{opened, Tallied}
 use Rattle.model.proofs.Sums.{sum_below, le_sum, sum_zero, sum_none}
-use Rattle.model.proofs.Moving.{sum_plus, sum_minus, count_plus, count_minus}
+use Rattle.model.proofs.Moving.{plus_other, sum_plus, sum_minus, count_plus, count_minus}
 
 -- the most that one grant may bring to a place
 pub brought_small : (n : Net) → Ranges n → (p t : ℕ) → max (n.take p t) (n.give p t) ≤ most_control_arc
@@ -63,14 +63,21 @@ count_raised xs t l = set_count xs t (slice_index xs t + 1) l ∙ at_that (opene
 pub count_lowered : (xs : List ℕ) (t : ℕ) → t < length xs → opened (slice_set xs t (slice_index xs t - 1)) ≡ minus_one (opened xs) t
 count_lowered xs t l = set_count xs t (slice_index xs t - 1) l ∙ at_that (opened xs) (λ v. v - 1) t
 
+minus_small : (f : ℕ → ℕ) (t u : ℕ) → minus_one f t u ≤ f u
+minus_small f t u = elim (u == t) as (λ b. cond b (f u - 1) (f u) ≤ f u) [ true ↦ omega arith | false ↦ omega arith ]
+
 -- ---- the tally with one grant more, and with one fewer
 module _ (n : Net) (old new : Grants) (t : ℕ) (there : t < n.moves) (tallied : Tallied n old) where
-  pub tally_more : old.total < most_open → opened new.counts ≡ plus_one (opened old.counts) t → new.total ≡ old.total + 1
+  pub tally_more : n.controllable t ≡ true → old.total < most_open → opened new.counts ≡ plus_one (opened old.counts) t → new.total ≡ old.total + 1
       → ((p : ℕ) → p < n.places → slice_index new.reserved p ≡ slice_index old.reserved p + max (n.take p t) (n.give p t)) → Tallied n new
-  tally_more room counts total raised = record {
+  tally_more controllable room counts total raised = record {
     total_is = total ∙ ap (λ x. x + 1) tallied.total_is ∙ sym (count_plus n.moves t (opened old.counts) there) ∙ ap (open_count n) (sym counts);
     few = omega arith;
     reserved_is = λ p l. raised p l ∙ ap (λ x. x + max (n.take p t) (n.give p t)) (tallied.reserved_is p l) ∙ sym (reserved_plus n (opened old.counts) t there p) ∙ ap (λ g. reserved n g p) (sym counts);
+    granted = λ u o. elim (cases_eq u t) [
+      | inl e ↦ subst (λ k. (k < n.moves) × (n.controllable k ≡ true)) (sym e) (there, controllable)
+      | inr ne ↦ tallied.granted u (omega (arith, o, ap (λ f. f u) counts ∙ plus_other (opened old.counts) t u ne))
+    ];
   }
 
   pub tally_fewer : 0 < opened old.counts t → opened new.counts ≡ minus_one (opened old.counts) t → new.total ≡ old.total - 1
@@ -81,6 +88,7 @@ module _ (n : Net) (old new : Grants) (t : ℕ) (there : t < n.moves) (tallied :
         total_is = (omega (arith, m, tallied.total_is)) ∙ ap (open_count n) (sym counts);
         few = omega (arith, tallied.few);
         reserved_is = λ p l. lowered p l ∙ down (slice_index old.reserved p) (reserved n (opened old.counts) p) (reserved n (minus_one (opened old.counts) t) p) (max (n.take p t) (n.give p t)) (tallied.reserved_is p l) (reserved_minus n (opened old.counts) t there p some) ∙ ap (λ g. reserved n g p) (sym counts);
+        granted = λ u o. tallied.granted u (omega (arith, o, ap (λ f. f u) counts, minus_small (opened old.counts) t u));
       }
     where
       down : (x a b m : ℕ) → x ≡ a → a ≡ b + m → x - m ≡ b
@@ -90,12 +98,24 @@ module _ (n : Net) (old new : Grants) (t : ℕ) (there : t < n.moves) (tallied :
 pub brought_held : (n : Net) (g : ℕ → ℕ) (t p : ℕ) → t < n.moves → 0 < g t → max (n.take p t) (n.give p t) ≤ reserved n g p
 brought_held n g t p there some = omega (arith, reserved_minus n g t there p some)
 
-pub tallied_none : (n : Net) (g : Grants) → opened g.counts ≡ (λ t. 0) → g.total ≡ 0 → ((p : ℕ) → slice_index g.reserved p ≡ 0) → Tallied n g
+-- ---- the tally with no grant open
+none_reserved : (n : Net) (g : ℕ → ℕ) (p : ℕ) → g ≡ (λ t. 0) → reserved n g p ≡ 0
+none_reserved n g p none = ap (λ (f : ℕ → ℕ). reserved n f p) none ∙ sum_none n.moves (λ t. 0) (λ u. max (n.take p u) (n.give p u)) (λ i k. refl)
+
+pub tallied_none : (n : Net) (g : Grants) → opened g.counts ≡ (λ t. 0) → g.total ≡ 0 → ((p : ℕ) → p < n.places → slice_index g.reserved p ≡ 0) → Tallied n g
 tallied_none n g none total nothing = record {
   total_is = total ∙ sym (ap (open_count n) none ∙ sum_zero n.moves);
   few = omega arith;
-  reserved_is = λ p l. nothing p ∙ sym (ap (λ (f : ℕ → ℕ). reserved n f p) none ∙ sum_none n.moves (λ t. 0) (λ u. max (n.take p u) (n.give p u)) (λ i k. refl));
+  reserved_is = λ p l. nothing p l ∙ sym (none_reserved n (opened g.counts) p none);
+  granted = λ t o. absurd (omega (arith, o, ap (λ f. f t) none));
 }
+
+-- so it is that of every net with the same places
+pub tally_idle : (n m : Net) (g : Grants) → m.places ≡ n.places → g.total ≡ 0 → Tallied n g → Tallied m g
+tally_idle n m g places idle t = tallied_none m g (λ i u. none u i) idle (λ p l. t.reserved_is p (subst (λ k. p < k) places l) ∙ none_reserved n (opened g.counts) p (λ i u. none u i))
+  where
+    none : (u : ℕ) → opened g.counts u ≡ 0
+    none u = elim (cases_lt 0 (opened g.counts u)) [ inl o ↦ omega (arith, le_sum n.moves (opened g.counts) u (t.granted u o).0, t.total_is) | inr l ↦ omega arith ]
 
 -- ---- markings
 take_small : (n : Net) → Ranges n → (p t : ℕ) → n.take p t ≤ most_control_arc

@@ -1,5 +1,5 @@
 // How many grants of each move are open, and what they may yet bring to each place.
-ghost use Rattle.std.specs.Prelude.{◌≡◌, ℕ, ◌<◌, max, slice_index};
+ghost use Rattle.std.specs.Prelude.{◌≡◌, ℕ, ◌<◌, true, max, slice_index};
 ghost use Rattle.model.specs.Net.{Net as NetValue};
 ghost use Rattle.model.specs.Ledger.{plus_one, minus_one};
 ghost use Rattle.model.specs.Sizes.{most_all_places, most_open};
@@ -64,6 +64,7 @@ impl Grants {
     pub(crate) fn add<N: Net>(&mut self, net: &N, t: usize)
         requires tallied { Tallied (N.Net.net net.now) self.old }
         requires there { t < (N.Net.net net.now).moves }
+        requires controllable { (N.Net.net net.now).controllable t ≡ true }
         requires room { self.old.total < most_open }
         ensures tallied { Tallied (N.Net.net net.now) self.new }
         ensures counts { opened self.new.counts ≡ plus_one (opened self.old.counts) t }

@@ -1,5 +1,5 @@
 // A ledger on any pile.
-ghost use Rattle.std.specs.Prelude.{◌≡◌, ℕ, ◌*◌, List};
+ghost use Rattle.std.specs.Prelude.{◌≡◌, ℕ, ◌*◌, ◌<◌, ◌≤◌, true, List};
 ghost use Rattle.model.specs.Ledger.{Call, new_ledger, net_under, free_under, taken, marking, run};
 ghost use Rattle.model.specs.Layer.{InForce, Built};
 ghost use Rattle.ledger.specs.Grants.{Tallied, opened};
@@ -30,9 +30,11 @@ impl<P: Plant> Ledger<P> {
         }
     }
 
-    // The open grants of the move `t`.
+    // The open grants of the move `t`: of a missing or an uncontrollable one there are none.
     pub fn open(&self, t: usize) -> u32
-        ensures { result ≡ (value_of self.now).opened t }
+        ensures counted { result ≡ (value_of self.now).opened t }
+        ensures granted { let n = net_under (value_of self.now) in 0 < result → (t < n.moves) × (n.controllable t ≡ true) }
+        ensures missing { (net_under (value_of self.now)).moves ≤ t → result ≡ 0 }
     {
         self.grants.of(t)
     }

@@ -24,7 +24,7 @@ overflow_add-self g c = omega (arith, le_sum (g.N.Net.net c.args.net.now).moves 
 
 pub returns-clause-tallied : goal.returns-clause-tallied
 returns-clause-tallied g c =
-    tally_more (g.N.Net.net c.args.net.now) c.args.self.now _ c.args.t c.requires.there c.requires.tallied c.requires.room
+    tally_more (g.N.Net.net c.args.net.now) c.args.self.now _ c.args.t c.requires.there c.requires.tallied c.requires.controllable c.requires.room
     (let b : c.args.t < length c.args.self.now.counts = search rules in count_raised c.args.self.now.counts c.args.t b)
     refl
     (λ p l. get_or_append_left c.places.reserved-items _ 0 p (omega arith) ∙ c.places.invariant.done p (omega arith))
