@@ -205,8 +205,7 @@ fn parse_sum(line: &TextLine, i: usize, places: &HashMap<&[u8], usize>) -> Resul
         (at, sign) = (1, -1);
     }
     loop {
-        let end = sum[at..].iter().position(|b| matches!(b, b'+' | b'-')).map_or(sum.len(), |n| at + n);
-        let part = &sum[at..end];
+        let part = &sum[at..];
         let digits = part.iter().take_while(|b| b.is_ascii_digit()).count();
         let mut factor = 1;
         let mut name_at = at;
@@ -219,6 +218,8 @@ fn parse_sum(line: &TextLine, i: usize, places: &HashMap<&[u8], usize>) -> Resul
             }
             name_at = at + digits + 1;
         }
+        let word = sum[name_at..].iter().take_while(|b| b.is_ascii_alphanumeric()).count().min(12);
+        let end = name_at + word;
         let name = &sum[name_at..end];
         if !name.first().is_some_and(u8::is_ascii_alphabetic) {
             return Err(line.fault(19, line.at(i) + name_at));
@@ -226,12 +227,13 @@ fn parse_sum(line: &TextLine, i: usize, places: &HashMap<&[u8], usize>) -> Resul
         let p = *places.get(name).ok_or_else(|| line.fault(15, line.at(i) + name_at))?;
         weights[p] += sign * factor;
         if weights[p].abs() > 99 {
-            return Err(line.fault(19, line.at(i) + at));
+            return Err(line.fault(19, line.at(i) + name_at));
         }
         match sum.get(end) {
             None => return Ok(weights),
             Some(b'-') => sign = -1,
-            Some(_) => sign = 1,
+            Some(b'+') => sign = 1,
+            Some(_) => return Err(line.fault(19, line.at(i) + end)),
         }
         at = end + 1;
     }

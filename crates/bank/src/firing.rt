@@ -61,8 +61,7 @@ impl Plant for Bank {
         }
     }
 
-    // Kept: this and `over_by_take` differ in a `!`. One `place_where(t, set)` for both would have two clauses, what it finds where the
-    // bit is set and what it finds where it is not, and each of the two would still be there with a call of one line.
+    // Kept: this and `over_by_take` differ in a `!`. With one `place_where(t, set)` each of the two would be a call of one line, as it is now.
     fn short_place(&self, t: usize) -> Option<usize> {
         (t < self.count && !has_bit(self.tokens, t)).then_some(t)
     }

@@ -25,3 +25,20 @@ fn run(rt: &HostRuntime) -> io::Result<()> {
 fn main(rt: HostRuntime) -> io::Result<()> {
     run(&rt)
 }
+
+#[cfg(test)]
+mod tests {
+    use super::*;
+
+    #[test]
+    fn missing_file_is_empty(rt: HostRuntime) -> io::Result<()> {
+        let read = read_or_empty(&rt, "no.such.file")?;
+        assert!(rt; read.is_empty());
+        Ok(())
+    }
+
+    #[test]
+    fn folder_is_no_file(rt: HostRuntime) {
+        assert!(rt; read_or_empty(&rt, ".").is_err());
+    }
+}

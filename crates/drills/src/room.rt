@@ -14,7 +14,8 @@ const SHOWN: Shown = Shown {
 };
 
 // A ledger straight on a plant, with no layer between: each order is asked for first.
-// Kept: beside `run_steps`, which asks nothing: the two share the `for` and the print of an answer.
+// Kept: beside `run_steps`, which asks nothing: the two share the `for` and the print of an answer. `run_admissions` of `worked` asks too,
+// of calls that `Order` has not, and prints the tokens of one place.
 fn ask_and_run<P: Plant>(
     rt: &HostRuntime,
     ledger: &mut Ledger<P>,

@@ -15,6 +15,7 @@ net_samples = record {
   over = refl;
   zero_lead = refl;
   in_line = refl;
+  again = refl;
   twice = refl;
   bare = refl;
   blank = refl;
@@ -46,5 +47,6 @@ rules_samples = record {
   taken = refl;
   minus_zero = refl;
   long_bound = refl;
+  second_line = refl;
   no_fixed = refl;
 }

@@ -1,9 +1,12 @@
--- Some texts, each with what reading it answers: a reader's own examples of the order of checks, with the byte of each refusal.
+-- Some texts, each with what reading it answers: the value, or the refusal with its line and byte.
 --   spelled bs       the text that bs spells: a blank stands for a tab, a comma for a newline
 --   NetSaid t r      reading the net text that is spelled t answers r
+--   cell_net, small_net   two nets
 --   NetSamples       net texts
+--   places           the names of the places that rules are read over
 --   RulesSaid t r    reading the rules text that is spelled t, over the net of the moves in, out, ret and the places A, Z, B, answers r
---   FixedWrong t c i the fixed rule that is spelled t is refused with c at the byte i of its line
+--   FixedWrong t c i the one line that is spelled t is refused with c at the byte i
+--   plain_part       a part of a sum with no number; weighing: the parts of A+2*B-A; zone_and_keep: two rules
 --   RulesSamples     rules texts and sums
 use Rattle.std.specs.Prelude.{◌≡◌, ℕ, Bool, true, false, cond, List, [], ◌∷◌, ◌++◌, pos, negsuc, Some, None, Ok, Err, codes, Result, ◌==◌}
 use Rattle.model.specs.declared.refusal.Refusal.{Refusal}
@@ -50,6 +53,7 @@ pub record NetSamples : Type 0 where
   pub over : NetSaid (codes "plant net,place A 7 5,") (Err (fault Field 2 18))
   pub zero_lead : NetSaid (codes "plant net,place A 3 05,") (Err (fault Field 2 20))
   pub in_line : NetSaid (codes "plant line,place A 1 1,move a c,move b c,arc A a 0 1,") (Err (fault ArcNotAllowed 5 41))
+  pub again : NetSaid (codes "plant net,place A 3 5,move a c,arc A a 0 1,arc A a 1 0,") (Err (fault ArcNotAllowed 5 43))
   pub twice : NetSaid (codes "plant net,place A 3 5,move A c,") (Err (fault NameTaken 3 27))
   pub bare : NetSaid (codes "plant net") (Err (fault Form 0 0))
   pub blank : read_net (codes "plant net" ++ (10 ∷ [])) ≡ Err (fault Byte 1 5)
@@ -102,4 +106,5 @@ pub record RulesSamples : Type 0 where
   pub taken : FixedWrong (codes "fixed in A 2,") NameTaken 6
   pub minus_zero : FixedWrong (codes "fixed zone A -0,") Field 13
   pub long_bound : FixedWrong (codes "fixed zone A 1000000,") Field 13
+  pub second_line : RulesSaid (codes "fixed zone Z 2,rule keep Q 1,") (Err (fault NameUnknown 2 25))
   pub no_fixed : FixedWrong (codes "rule zone A 2,") NoRecord 0

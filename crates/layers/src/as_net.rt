@@ -42,7 +42,7 @@ impl<P: Plant, const N: usize> Net for Layer<P, Table<N>> {
     }
 
     // Kept: a `match` on the row here, in the next four and in `free`. With `map_or_else(|| self.below.limit(p), ..)` each closure needs an
-    // `ensures`: the check reads nothing off a closure that holds a layer of `Table<N>`. In `take` and `give` a guard would become an `if`.
+    // `ensures`: the check infers no contract for one that holds a layer. In `take` and `give` a guard would become an `if`.
     fn take(&self, p: usize, t: usize) -> u32 {
         match self.own_row(p) {
             Some(r) if self.below.controllable(t) => self.rows.take(r, t),

@@ -52,7 +52,7 @@ impl<P: Plant, const N: usize> Layer<P, Table<N>> {
     }
 
     // The number of this layer: one above the highest below.
-    // Kept: `below` has a name, so that the closure does not hold the layer: off one that does the check reads nothing.
+    // Kept: `below` has a name, so that the closure does not hold the layer: the check infers no contract for one that does.
     pub(crate) fn next_layer(&self) -> usize
         ensures { result ≡ next_layer (P.Net.net self.now.below).places (P.Net.net self.now.below).layer }
     {
@@ -78,6 +78,7 @@ impl<P: Plant, const N: usize> Layer<P, Table<N>> {
     }
 
     // The place that was found below, or else that of the lowest row that passes the test, if the rows count.
+    // Kept: a `match`, where `or_else` would take a closure that holds the layer, for which the check infers no contract.
     pub(crate) fn or_row<F: Fn(&Row) -> bool>(
         &self,
         found: Option<usize>,

@@ -20,9 +20,8 @@ impl<P: Plant> Ledger<P> {
     }
 
     // Ends one open grant of the move `t`: it has been made, and finishes.
-    // Kept: `cancel` differs in one call of the pile. A shared `end(t, |pile| pile.finish(t))` would require of its closure that it takes the
-    // pile and leaves the net, and tell answer and ledger by what the closure does (four clauses); and each of the two closures would say
-    // its answer, the net, the tokens and the whole pile after it, as `Plant::finish` and `Plant::back` do (four each).
+    // Kept: `cancel` differs in one call of the pile. A shared `end(t, P::finish)` would require of what it is given that it may be called
+    // and leaves the net, and tell answer and ledger by what that does: four clauses, where each call would still say its own two.
     pub fn commit(&mut self, t: usize) -> Result<(), Fault>
         ensures answer { result ≡ answer (value_of self.old) (commit t) }
         ensures after { value_of self.new ≡ next (value_of self.old) (commit t) }

@@ -106,7 +106,8 @@ impl Plant for Line {
         self.is_full(p).then_some(p)
     }
 
-    // Kept: one function of this and `back` would take `Slot::lower` or `Slot::raise`, each with a `requires` of its own.
+    // Kept: this call and the next two. To provide them, `Plant` would need a public method with a `requires` where a refusal can stand;
+    // one function of this and `back` would take `Slot::lower` or `Slot::raise`, each with a `requires` of its own.
     fn begin(&mut self, t: usize) -> Result<(), Fault> {
         self.may_begin(t)?;
         if let Some(p) = t.checked_sub(1) {

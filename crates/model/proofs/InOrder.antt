@@ -11,11 +11,12 @@ use Rattle.model.specs.Net.{Net}
 use Rattle.model.specs.Plant.{Answer, lowest, fault_of, fault_at, setting_fault, refuse_at, refuse_unless, ◌else_by◌, known, short_place, over_place, begin_answer}
 use Rattle.model.specs.Rule.{Rule, Worked, weighted_free}
 use Rattle.model.specs.Working.{work}
-use Rattle.model.specs.Layer.{Top, is_shut, row_count, open_rows, holds_now, top_answer, board_answer}
+use Rattle.model.specs.Layer.{Top, Pile, pile_net, is_shut, row_count, open_rows, holds_now, top_answer, board_answer}
 use Rattle.model.specs.Layer.Top.{plant, monitor, board}
 use Rattle.model.specs.Ledger.{Ledger, net_under, free_under, open_count, crowded, room_answer, is_open, grant_answer, report_answer}
-use Rattle.model.specs.Order.{Check, Checked, Crowded, last_check, no_move, short_at, crowded_at, over_at, begin_list, few_list, grant_list, report_list, end_list, row_list, admit_list, of_move, of_setting, CallsInOrder, ShutExactly}
+use Rattle.model.specs.Order.{Check, Checked, Crowded, last_check, no_move, short_at, crowded_at, over_at, begin_list, few_list, grant_list, report_list, end_list, row_list, admit_list, of_move, of_setting, CallsInOrder, SettingInOrder, ShutExactly}
 use Rattle.model.specs.Order.Check.{if_so, at_lowest}
+use Rattle.model.proofs.Layering.{net_shuts, free_shuts}
 use Rattle.model.proofs.Checks.{lowest_is, lowest_all_fail, ok_else, known_ok}
 
 not_le : (a b : ℕ) → (b ≤ a → ⊥) → a < b
@@ -107,45 +108,55 @@ worked k n free (Ok w) =
     subst (λ (a : Answer). Checked k (last_check n free (Ok w) ∷ []) a) (else_end (refuse_unless (int_le low w.bound) (setting_fault Broken)))
     (step_if k [] (w.bound <ℤ low) (int_le low w.bound) (setting_fault Broken) (Ok tt) (λ h. grind (arith, ints)) (λ m. true_from_ne_false (int_le low w.bound) (λ e. m (grind (arith, ints)))) (λ e. refl))
 
--- where there is a row to set, the layer has rows, so that it is shut only for want of room
-shut_by : (top : Top) (r : ℕ) (n : Net) → r < open_rows top → (most_all_places < n.places + row_count top → not (is_shut (row_count top) n) ≡ false) × ((most_all_places < n.places + row_count top → ⊥) → not (is_shut (row_count top) n) ≡ true)
-shut_by plant r n l = absurd (omega arith)
-shut_by monitor r n l = absurd (omega arith)
-shut_by board r n l = (
-  λ h. ap not (lt-ltb most_all_places (n.places + row_count board) h),
-  λ m. ap not (le-ltb most_all_places (n.places + row_count board) (elim (cases_lt most_all_places (n.places + row_count board)) [
-    | inl k ↦ absurd (m k)
-    | inr k ↦ k
-  ])),
+pub shut_exactly : ShutExactly
+shut_exactly size n = (
+  λ o. grind (arith, nat_tests, o),
+  λ some room. grind (arith, nat_tests, some, room),
+  λ e free rows. (net_shuts size n rows e, free_shuts size n rows free e),
 )
 
-module _ (l : Ledger) (r : ℕ) (typed : Rule) where
-  abbrev k : ℕ
-  k = (net_under l).places
-
+-- where the top layer has rows, it is shut only for want of room
+module _ (p : Pile) (r : ℕ) (typed : Rule) (k : ℕ) (some : 1 ≤ row_count p.top) where
   abbrev own : Bool
-  own = (l.pile.rows r).in_use
+  own = (p.rows r).in_use
 
   abbrev w : Result Worked Fault
-  w = work l.pile.below typed
+  w = work p.below typed
 
   abbrev held : Answer
-  held = holds_now l.pile.below l.pile.below_free w
+  held = holds_now p.below p.below_free w
 
-  set : r < open_rows l.pile.top → Checked k (row_list l.pile r w) (top_answer l.pile r typed)
-  set there =
-      step_if k (if_so (own ≡ true) (of_setting RowInUse) ∷ last_check l.pile.below l.pile.below_free w ∷ []) (most_all_places < l.pile.below.places + row_count l.pile.top) (not (is_shut (row_count l.pile.top) l.pile.below)) (setting_fault Shut)
-      (refuse_unless (not own) (setting_fault RowInUse) else_by held) (shut_by l.pile.top r l.pile.below there).0 (shut_by l.pile.top r l.pile.below there).1 (λ s.
-      step_if k (last_check l.pile.below l.pile.below_free w ∷ []) (own ≡ true) (not own) (setting_fault RowInUse) held (λ h. ap not h) (λ m. ap not (false_from_ne_true own m)) (λ u.
-      worked k l.pile.below l.pile.below_free w))
+  set : Checked k (row_list p r w) (top_answer p r typed)
+  set =
+      step_if k (if_so (own ≡ true) (of_setting RowInUse) ∷ last_check p.below p.below_free w ∷ []) (most_all_places < p.below.places + row_count p.top) (not (is_shut (row_count p.top) p.below)) (setting_fault Shut)
+      (refuse_unless (not own) (setting_fault RowInUse) else_by held)
+      (λ h. ap not ((shut_exactly (row_count p.top) p.below).0 (inr h)))
+      (λ m. ap not ((shut_exactly (row_count p.top) p.below).1 some (elim (cases_lt most_all_places (p.below.places + row_count p.top)) [
+        | inl h ↦ absurd (m h)
+        | inr h ↦ h
+      ])))
+      (λ s. step_if k (last_check p.below p.below_free w ∷ []) (own ≡ true) (not own) (setting_fault RowInUse) held (λ h. ap not h) (λ m. ap not (false_from_ne_true own m)) (λ u.
+      worked k p.below p.below_free w))
+
+pub setting_in_order : SettingInOrder
+setting_in_order p r typed some = set p r typed (pile_net p).places some
+
+some_rows : (top : Top) (r : ℕ) → r < open_rows top → 1 ≤ row_count top
+some_rows plant r l = absurd (omega arith)
+some_rows monitor r l = absurd (omega arith)
+some_rows board r l = omega arith
+
+module _ (l : Ledger) (r : ℕ) (typed : Rule) where
+  abbrev places : ℕ
+  places = (net_under l).places
 
   abbrev count : ℕ
   count = open_count (net_under l) l.opened
 
-  admitted : Checked k (admit_list l r typed) (refuse_unless (eqb count 0) (setting_fault GrantsOpen) else_by board_answer l.pile r typed)
+  admitted : Checked places (admit_list l r typed) (refuse_unless (eqb count 0) (setting_fault GrantsOpen) else_by board_answer l.pile r typed)
   admitted =
-      step_if k (if_so (open_rows l.pile.top ≤ r) (of_setting NoRow) ∷ row_list l.pile r w) (1 ≤ count) (eqb count 0) (setting_fault GrantsOpen) (board_answer l.pile r typed) (λ h. grind (arith, nat_tests)) (λ m. true_from_ne_false (eqb count 0) (λ e. m (grind (arith, nat_tests)))) (λ e.
-      step_lt k (row_list l.pile r w) r (open_rows l.pile.top) (setting_fault NoRow) (top_answer l.pile r typed) set)
+      step_if places (if_so (open_rows l.pile.top ≤ r) (of_setting NoRow) ∷ row_list l.pile r (work l.pile.below typed)) (1 ≤ count) (eqb count 0) (setting_fault GrantsOpen) (board_answer l.pile r typed) (λ h. grind (arith, nat_tests)) (λ m. true_from_ne_false (eqb count 0) (λ e. m (grind (arith, nat_tests)))) (λ e.
+      step_lt places (row_list l.pile r (work l.pile.below typed)) r (open_rows l.pile.top) (setting_fault NoRow) (top_answer l.pile r typed) (λ there. set l.pile r typed places (some_rows l.pile.top r there)))
 
 pub calls_in_order : CallsInOrder
 calls_in_order l = record {
@@ -155,9 +166,3 @@ calls_in_order l = record {
   of_report = reported (net_under l) (free_under l) l.opened;
   of_admit = admitted l;
 }
-
-pub shut_exactly : ShutExactly
-shut_exactly size n = (
-  λ o. grind (arith, nat_tests, o),
-  λ some room. grind (arith, nat_tests, some, room),
-)

@@ -1,5 +1,5 @@
 -- The laws of the model: what a reader would ask of the definitions, in the subject's own terms.
--- Each statement that a contract names stands here; the words it is said in come first.
+-- The statements that contracts name stand here and in `Order.antt`; the words they are said in come first.
 --   SameGround     two nets with the same ground part: places, moves and arcs
 --   Derived        how a worked rule comes from the typed one: L' = R1 + r·L and b' = r·(b + 1) − 1, r ≥ 1, R1 nowhere negative
 --   FiringRule     a call of a plant: refused for a missing move, else at the lowest place in the way, else accepted

@@ -5,10 +5,14 @@
 --   Crowded        the place may come over its limit: what is free there, without what the move takes, with the most that the move and all
 --                  open grants may bring
 --   last_check     what is asked of a rule once it was worked, or the refusal of working it
---   .._list        the checks of a grant, of a report, of a commit or a cancel, of an admission, and parts of them
---   CallsInOrder   of each call on every ledger: its checks
+--   no_move        there is no such move; short_at, crowded_at, over_at: a place is short, has no room, or would go over its limit
+--   begin_list     what a grant and a report ask for last; few_list: that, and first that fewer grants are open than may be
+--   grant_list, report_list, end_list, admit_list   the checks of a grant, of a report, of a commit or a cancel, of an admission
+--   row_list       the checks of setting a row of the top layer
+--   InOrder, CallsInOrder   of each call on every ledger: its checks
+--   SettingInOrder of setting a row of any layer that has rows: its checks
 --   NumbersApart   no two refusals have the same number
---   ShutExactly    a layer is shut exactly where it has no rows, or there is no room for them
+--   ShutExactly    a layer is shut exactly where it has no rows, or there is no room for them; it then changes nothing
 use Rattle.std.specs.Prelude.{◌≡◌, ℕ, ◌+◌, ◌<◌, ◌≤◌, max, true, false, ◌⊎◌, List, [], ◌∷◌, ◌<ℤ◌, Some, None, Ok, Err, Result}
 use Rattle.model.specs.declared.refusal.Refusal.{Refusal}
 use Rattle.model.specs.declared.refusal.Refusal.TheVariants.{NoMove, Uncontrollable, Controllable, TooManyOpen, Short, NoRoom, NotOpen, GrantsOpen, NoRow, Shut, RowInUse, Broken, OverLimit}
@@ -19,7 +23,7 @@ use Rattle.model.specs.Net.{Net}
 use Rattle.model.specs.Plant.{Answer}
 use Rattle.model.specs.Rule.{Rule, Worked, weighted_free}
 use Rattle.model.specs.Working.{work}
-use Rattle.model.specs.Layer.{Pile, is_shut, row_count, open_rows}
+use Rattle.model.specs.Layer.{Row, Pile, pile_net, is_shut, layer_net, layer_free, row_count, open_rows, top_answer}
 use Rattle.model.specs.Ledger.{Ledger, grant, commit, cancel, report, admit, net_under, free_under, open_count, reserved, answer}
 
 pub data Check : Type 1 where
@@ -56,7 +60,7 @@ short_at n free t = at_lowest (λ p. free p < n.take p t) (at_place n Short t)
 abbrev pub crowded_at : Net → (ℕ → ℕ) → (ℕ → ℕ) → ℕ → Check
 crowded_at n free opened t = at_lowest (Crowded n free opened t) (at_place n NoRoom t)
 
--- the move would take a place over its limit, which is to have so many tokens more
+-- a place would go over its limit with so many tokens more
 abbrev pub over_at : Net → (ℕ → ℕ) → (ℕ → ℕ) → ℕ → Check
 over_at n free more t = at_lowest (λ p. n.limit p < free p + more p) (at_place n OverLimit t)
 
@@ -77,7 +81,7 @@ report_list n free opened t = no_move n t ∷ if_so (n.controllable t ≡ true) 
 abbrev pub end_list : Net → (ℕ → ℕ) → (ℕ → ℕ) → (ℕ → ℕ) → ℕ → List Check
 end_list n free opened more t = no_move n t ∷ if_so (opened t ≡ 0) (of_move NotOpen t) ∷ over_at n free more t ∷ []
 
--- the row r of a pile whose top is a board, which is shut where there is no room for all its rows
+-- the row r of the top layer, which is shut where there is no room for all its rows
 abbrev pub row_list : Pile → ℕ → Result Worked Fault → List Check
 row_list p r w =
     if_so (most_all_places < p.below.places + row_count p.top) (of_setting Shut)
@@ -101,6 +105,9 @@ pub record InOrder (l : Ledger) (n : Net) (free : ℕ → ℕ) : Type 0 where
 abbrev pub CallsInOrder : Type 0
 CallsInOrder = (l : Ledger) → InOrder l (net_under l) (free_under l)
 
+abbrev pub SettingInOrder : Type 0
+SettingInOrder = (p : Pile) (r : ℕ) (typed : Rule) → 1 ≤ row_count p.top → Checked (pile_net p).places (row_list p r (work p.below typed)) (top_answer p r typed)
+
 abbrev pub NumbersApart : Type 0
 NumbersApart = (r s : Refusal) → refusal_number r ≡ refusal_number s → r ≡ s
 
@@ -108,3 +115,4 @@ abbrev pub ShutExactly : Type 0
 ShutExactly = (size : ℕ) (n : Net) →
     (((size ≡ 0) ⊎ (most_all_places < n.places + size)) → is_shut size n ≡ true)
     × (1 ≤ size → n.places + size ≤ most_all_places → is_shut size n ≡ false)
+    × (is_shut size n ≡ true → (free : ℕ → ℕ) (rows : ℕ → Row) → (layer_net size n rows ≡ n) × (layer_free size n free rows ≡ free))

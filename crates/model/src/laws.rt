@@ -1,6 +1,6 @@
 // The promise and the laws of the model, each as the contract of a function, so that the check asks for its proof.
 ghost use Rattle.model.specs.Promise.{Promise};
-ghost use Rattle.model.specs.Order.{CallsInOrder, NumbersApart, ShutExactly};
+ghost use Rattle.model.specs.Order.{CallsInOrder, SettingInOrder, NumbersApart, ShutExactly};
 ghost use Rattle.model.specs.Laws.{BeginFires, FinishFires, BackFires, BeginBack, BeginFinish, WorkingSays, IsRound, DivisorGcd, WorkDerives, WorkQuiets, WorkedImplies, WorkOnGround, LayerBegins, LayerMoves, LayerRanges, NewRows, AboveAll, SetRow, RefusedStill, CallsFire, AnswersAll, ReportIs, GrantsExact, ReportsExact, AdmitsExact, RowsAreRules, AllStanding, StateEquation};
 
 // After every list of calls on every pile that can be built: the book agrees with the ledger, each rule in force adds up to
@@ -90,7 +90,7 @@ pub fn layer_keeps()
     ensures { LayerRanges }
 {}
 
-// A layer is shut exactly where it has no rows, or there is no room for them.
+// A layer is shut exactly where it has no rows, or there is no room for them; it then changes neither net nor tokens.
 pub fn shut_exactly()
     ensures { ShutExactly }
 {}
@@ -111,6 +111,11 @@ pub fn set_row()
 {}
 
 // ---- ledgers and books
+
+// Setting a row of a layer that has rows answers the first of its checks that refuses it; else it is accepted.
+pub fn setting_in_order()
+    ensures { SettingInOrder }
+{}
 
 // No two refusals have the same number.
 pub fn numbers_apart()

@@ -9,7 +9,8 @@ use model::sizes::{MOST_MOVES, MOST_PLACES};
 const MOST_PAIRS: usize = MOST_PLACES * MOST_MOVES;
 
 // The pairs that arcs join, so that one is asked for by one look-up.
-// Kept: one array, move by move; of an array of arrays a proof is not told how long its rows are, and a ghost field would have to say it.
+// Kept: one array, move by move. In an array of arrays `add` has to know how long the row is that it writes in: a ghost field would have
+// to say it of every row, and `none` and `add` to show it; of one array the length is known.
 #[derive(Drop)]
 pub(crate) struct Joined {
     pairs: [bool; MOST_PAIRS],
@@ -33,7 +34,7 @@ impl Joined {
         self.pairs[transition * MOST_PLACES + place]
     }
 
-    // An arc more, which joins the place and the move.
+    // Marks the pair.
     pub(crate) fn add(&mut self, place: usize, transition: usize)
         requires { (place < most_places) × (transition < most_moves) }
         ensures { (p t : ℕ) → p < most_places → has self.new p t ≡ (has self.old p t || (place == p && transition == t)) }

@@ -28,8 +28,8 @@ use texts::walk::Lines;
 
 impl<'a> NetReader<'a> {
     // Adds the place that the fields of a place line say.
-    // Kept: this and the next two differ in the reading and in the `Vec`; all that a generic function of a `Vec` and a read item could
-    // share is the one call of `push`.
+    // Kept: this and the next two differ in the reading and in the `Vec`, and an arc marks its pair besides; all that a generic function of
+    // a `Vec` and a read item could share is the one call of `push`.
     fn add_place(
         &mut self,
         at: At,

@@ -14,10 +14,10 @@ abbrev pub example_rules : List ℕ
 example_rules = spelled (codes "fixed zone Z 2,rule keep B 1,")
 
 abbrev pub example_orders : List ℕ
-example_orders = spelled (codes "show A,show Z,show C,show,grant in,grant in,grant in,cancel in,commit in,show Z,show zone,admit keep,admit keep,report out,grant ret,grant in,commit ret,show keep,grant out,commit in,report in,")
+example_orders = spelled (codes "show A,show Z,show B,show C,show,grant in,grant in,grant in,cancel in,commit in,show Z,show zone,admit keep,admit keep,report out,grant ret,grant in,commit ret,show keep,grant out,commit in,report in,")
 
 abbrev pub example_print : List ℕ
-example_print = spelled (codes "at A 3,at Z 0,no 15 - -,no 12 - -,ok,ok,no 34 in zone,ok,ok,at Z 1,at zone 1,ok,no 39 - -,ok,ok,no 34 in keep,ok,at keep 1,no 31 out -,no 36 in -,no 32 in -,")
+example_print = spelled (codes "at A 3,at Z 0,at B 0,no 15 - -,no 12 - -,ok,ok,no 34 in zone,ok,ok,at Z 1,at zone 1,ok,no 39 - -,ok,ok,no 34 in keep,ok,at keep 1,no 31 out -,no 36 in -,no 32 in -,")
 
 abbrev pub ExamplePrinted : Type 0
 ExamplePrinted = printed example_net example_rules example_orders ≡ example_print

@@ -12,8 +12,8 @@
 --   calls_in, calls_of   the calls that an order makes, one or none, and those of a list of order lines
 --   start_monitor, start_pile   a fixed monitor on the cell's plant, blank; and a board on it after its rule is set
 --   BuiltCell        the pile that the ledger is opened on is one that can be built, with the fixed rule in force, typed and worked; the
---                    promise holds after every list of calls on it; and the order lines ys after the lines xs print what they print on the
---                    ledger that the run of the calls of xs leaves, of which the promise speaks
+--                    promise holds after every list of calls on it; and the order lines ys after the lines xs print what ys alone would
+--                    print on the ledger after the calls of xs
 --   Started          where the orders pass the checks of the whole text and the fixed rule can be set, the pile is BuiltCell
 --   ran_with         what the orders print, by what setting the fixed rule answers
 --   ran_on           the same, by what the checks of the whole orders text answer

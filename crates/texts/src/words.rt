@@ -12,8 +12,8 @@ pub const NAME_TAIL: usize = 11;
 pub const MOST_DIGITS: usize = 9;
 
 // Where the byte `b` first stands from `start` on; the end of the text, or `start` beyond it, if nowhere.
-// Kept: `start`, though `cut` and `Lines` ask from 0: the edit `until_from_the_start` plants a search that leaves it out, and an edit keeps
-// its meaning.
+// Kept: `start`, though both callers ask from 0: the edit `until_from_the_start` turns it, and it is a rule of the project that an edit
+// stays with the meaning that it has.
 pub fn until(text: &[u8], start: usize, b: u8) -> usize
     ensures value { result ≡ start + prefix_len (is_not b) (drop start text.now) }
     ensures within { start ≤ length text.now → result ≤ length text.now }
@@ -87,14 +87,8 @@ pub fn number(field: &[u8], digits: usize) -> Option<u32>
     ensures { result ≡ number_of (min digits most_digits) field.now }
 {
     match field {
-        [] => None,
-        [b'0', _, ..] => None,
-        _ => {
-            if field.len() <= digits.min(MOST_DIGITS) {
-                digits_value(field)
-            } else {
-                None
-            }
-        }
+        [] | [b'0', _, ..] => None,
+        _ if field.len() <= digits.min(MOST_DIGITS) => digits_value(field),
+        _ => None,
     }
 }
