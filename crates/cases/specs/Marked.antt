@@ -6,7 +6,7 @@
 --   seen_of          a case of the model, as one of this list
 --   marked_cases     the list
 --   AsMarked         each case of a list came out as it must
-use Rattle.std.specs.Prelude.{◌≡◌, ℕ, zero, suc, List, [], ◌∷◌, map, length, ℤ, pos, Ok, Err, Result, codes}
+use Rattle.std.specs.Prelude.{◌≡◌, ℕ, List, [], ◌∷◌, map, length, ℤ, pos, Ok, Err, Result, codes}
 use Rattle.model.specs.Refusals.{refusal_number}
 use Rattle.model.specs.Cases as model
 use Rattle.formats.specs.Texts.{Check}
