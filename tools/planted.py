@@ -23,12 +23,12 @@ def first_goal(said):
 def planted(path):
     """The file that an edit changes, and its pairs of texts."""
     lines = path.read_text().splitlines()
-    of = {word: [line.split(": ", 1)[1].strip() for line in lines if line.startswith(word + ": ")] for word in ("file", "old", "new")}
+    of = {word: [line.split(":", 1)[1].strip() for line in lines if line.startswith(word + ":")] for word in ("file", "old", "new")}
     return of["file"][0], list(zip(of["old"], of["new"]))
 
 
 def cell(text):
-    return "`" + text.replace("|", "\\|") + "`"
+    return "`" + text.replace("|", "\\|") + "`" if text else "nothing"
 
 
 def row(crate, name, goal):
