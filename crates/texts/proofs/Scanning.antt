@@ -1,13 +1,13 @@
 -- Loops that go through bytes one by one.
-use Rattle.std.proofs.Common.{◌≡◌, ℕ, ◌+◌, ◌-◌, ◌*◌, ◌^◌, ◌<◌, ◌≤◌, min, Bool, true, false, cond, not, ◌&&◌, leb, eqb, ◌⊎◌, HoldsAt, List, [], ◌∷◌, map, length, get_or, take, drop, Option, MatchOption, sym, refl, ap, ◌∙◌, pow-suc, add-one, inl, inr, arith}
+use Rattle.std.proofs.Common.{◌≡◌, ℕ, ◌+◌, ◌-◌, ◌*◌, ◌^◌, ◌<◌, ◌≤◌, min, Bool, true, false, cond, not, ◌&&◌, eqb, ◌⊎◌, HoldsAt, List, [], ◌∷◌, map, length, get_or, take, drop, Option, MatchOption, sym, refl, ap, ◌∙◌, pow-suc, add-one, inl, inr, arith}
 use native.Mathlib.Nat.{pow-le-pow_right}
 use Rattle.std.specs.List.{AllWithin, prefix_len, list_all}
 use Rattle.std.specs.Option.{unwrap_or}
 use Rattle.std.proofs.lemmas.Iterator.{index_from_first}
 use Rattle.std.proofs.lemmas.List.{at_drop_more, at_drop_all, take_rest, drop_all}
-use Rattle.std.proofs.lemmas.Bool.{and_left, false≢true, cases_lt}
-use Rattle.formats.specs.Words.{is_letter, is_name, is_not, all}
-use Rattle.texts.specs.Numbers.{is_word, most_digits}
+use Rattle.std.proofs.lemmas.Bool.{and_left, cases_lt}
+use Rattle.formats.specs.Words.{is_not, all}
+use Rattle.texts.specs.Numbers.{most_digits}
 
 -- f says that p holds of each element; an index comes as far as f of what is left is f of the whole
 module _ {X : Type 0} (p : X → Bool) (f : List X → Bool) (none : f [] ≡ true) (more : (x : X) (xs : List X) → f (x ∷ xs) ≡ (p x && f xs)) where
@@ -62,10 +62,3 @@ power_more v d i h small = omega (arith, ap (λ (k : ℕ). 10 ^ k) (add-one i), 
 
 pub power_most : (i : ℕ) → i < most_digits → 10 ^ i ≤ 100000000
 power_most i h = let le : i ≤ 8 = omega arith in pow-le-pow_right (omega arith) le
-
--- a letter with a tail is a name
-pub name_rest : (f : List ℕ) (r : Bool) → is_letter (get_or f 0 0) ≡ true → r ≡ (all is_word (take (length f - 1) (drop 1 f)) && leb (length (take (length f - 1) (drop 1 f))) 11) → r ≡ is_name f
-name_rest [] r e q = absurd (false≢true e)
-name_rest (b ∷ bs) r e q =
-    q ∙ ap (λ (t : List ℕ). all is_word t && leb (length t) 11) (take_rest (b ∷ bs) 1)
-    ∙ sym (ap (λ (l : Bool). l && (all is_word bs && leb (length bs) 11)) e)

@@ -1,5 +1,5 @@
 // What every text must be, its lines, and the record of a line.
-ghost use Rattle.std.specs.Prelude.{◌≡◌, ℕ, ◌+◌, ◌<◌, ◌≤◌, [], ◌∷◌, length};
+ghost use Rattle.std.specs.Prelude.{◌≡◌, ◌==◌, ℕ, ◌+◌, ◌<◌, ◌≤◌, [], ◌∷◌, length, not, position, count_by, IfSome};
 ghost use Rattle.std.specs.Option.{option_map};
 ghost use Rattle.formats.specs.Words.{is_allowed, fields};
 ghost use Rattle.formats.specs.Texts.{is_text, fault};
@@ -27,21 +27,31 @@ fn is_allowed(b: u8) -> bool
     matches!(b, b'\t' | b'\n' | 33..=126)
 }
 
+// Where the first byte stands that no text may have.
+fn first_bad(text: &[u8]) -> Option<usize>
+    ensures value { result ≡ position (λ b. not (is_allowed b)) text.now }
+    ensures within { IfSome result (λ i. i < length text.now) }
+{
+    text.iter().position(|b| !is_allowed(*b))
+}
+
+// How many lines end in the bytes.
+fn count_ends(bytes: &[u8]) -> usize
+    ensures value { result ≡ count_by (λ b. b == 10) bytes.now }
+    ensures within { result ≤ length bytes.now }
+{
+    bytes.iter().filter(|b| **b == b'\n').count()
+}
+
 // Refuses the first byte that no text may have.
-// Kept: the line number rises with the bytes that pass, so a `position` would need a second walk that counts the lines.
 fn check_bytes(text: &[u8]) -> Result<(), TextFault>
     ensures { result ≡ bytes_check text.now }
 {
-    let mut line = 1;
-    for (i, b) in text.iter().enumerate() {
-        if !is_allowed(*b) {
-            return Err(At { line, byte: i }.fault(Refusal::Byte, i));
-        }
-        if *b == b'\n' {
-            line += 1;
-        }
-    }
-    Ok(())
+    let Some(byte) = first_bad(text) else {
+        return Ok(());
+    };
+    let line = 1 + count_ends(&text[..byte]);
+    Err(At { line, byte }.fault(Refusal::Byte, byte))
 }
 
 // The checks of a whole text, before any of its lines is read.

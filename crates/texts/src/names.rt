@@ -1,5 +1,6 @@
 // Looking names up.
 ghost use Rattle.std.specs.Prelude.{◌≡◌, ℕ, ◌+◌, ◌<◌, ◌≤◌, length, IfSome};
+ghost use Rattle.std.specs.Str.{bytes_eq};
 ghost use Rattle.formats.specs.Words.{is_new};
 ghost use Rattle.texts.specs.Spans.{part_of, titles_of, found};
 ghost use Rattle.texts.specs.declared.span.Span.{Span};
@@ -23,6 +24,13 @@ pub fn part<'a>(text: &'a [u8], span: Span) -> &'a [u8]
     &text[start..start + len]
 }
 
+// Whether two names are the same. Names that differ are mostly told apart by their last byte, as numbered ones are.
+fn is_same(a: &[u8], b: &[u8]) -> bool
+    ensures { result ≡ bytes_eq a.now b.now }
+{
+    a.last() == b.last() && a == b
+}
+
 // The index of the first item whose name, as a part of the text, is `name`.
 pub fn find<N: Named>(items: &[N], text: &[u8], name: &[u8]) -> Option<usize>
     ensures value { result ≡ found (titles_of text.now N.Named.title items.now) name.now }
@@ -30,7 +38,7 @@ pub fn find<N: Named>(items: &[N], text: &[u8], name: &[u8]) -> Option<usize>
 {
     items
         .iter()
-        .position(|item| part(text, item.name()) == name)
+        .position(|item| is_same(part(text, item.name()), name))
 }
 
 // Whether no item has the name.
