@@ -1,5 +1,5 @@
 -- What a line answers: only the place before a move, or the one after it, can stop it.
-use Rattle.std.proofs.Common.{◌≡◌, ℕ, ◌+◌, ◌-◌, ◌<◌, ◌≤◌, Bool, true, false, cond, ◌&&◌, eqb, ltb, None, Ok, List, length, get_or, slice_set, sym, refl, ◌∙◌, ⊎_elim, arith}
+use Rattle.std.proofs.Common.{◌≡◌, ℕ, ◌+◌, ◌-◌, ◌<◌, ◌≤◌, Bool, true, false, cond, ◌&&◌, eqb, ltb, leb, None, Some, Ok, List, length, get_or, slice_set, sym, refl, ◌∙◌, ⊎_elim, ◌⊎◌, inl, inr, arith}
 use Rattle.std.specs.Bool.{then_some}
 use Rattle.std.proofs.lemmas.Bool.Decides.{nat_tests}
 use Rattle.std.proofs.lemmas.Bool.{lt-ltb, le-ltb, cond-true, cond-false, eq-eqb, ne_eqb, cases_eq}
@@ -30,44 +30,50 @@ module _ (s : Line) (t : ℕ) where
   abbrev pub tokens : ℕ → ℕ
   tokens p = (slot s.slots p).tokens
 
-  -- the first move takes from no place
-  pub short_first : t ≡ 0 → short_place net held t ≡ None
-  short_first z = lowest_none (λ p. ltb (held p) (net.take p t)) k (λ p l. le-ltb (held p) (net.take p t) (grind (arith, nat_tests)))
+  -- no place is the source of the move, or p is
+  pub short_none : cond (leb 1 t && ltb t (k + 1)) (Some (t - 1)) None ≡ None → short_place net held t ≡ None
+  short_none e = lowest_none (λ p. ltb (held p) (net.take p t)) k (λ p l. le-ltb (held p) (net.take p t) (grind (arith, nat_tests)))
 
-  pub short_is : 1 ≤ t → short_place net held t ≡ then_some (ltb (t - 1) k && eqb (tokens (t - 1)) 0) (t - 1)
-  short_is some = go (ltb (t - 1) k && eqb (tokens (t - 1)) 0) refl
+  pub short_is : (p : ℕ) → p < k → p + 1 ≡ t → short_place net held t ≡ then_some (eqb (tokens p) 0) p
+  short_is p l here = go (eqb (tokens p) 0) refl
     where
-      go : (b : Bool) → (ltb (t - 1) k && eqb (tokens (t - 1)) 0) ≡ b → short_place net held t ≡ then_some b (t - 1)
+      go : (b : Bool) → eqb (tokens p) 0 ≡ b → short_place net held t ≡ then_some b p
       go true e =
-          lowest_at (λ p. ltb (held p) (net.take p t)) k (t - 1) (grind (arith, nat_tests))
-          (λ p l. le-ltb (held p) (net.take p t) (grind (arith, nat_tests))) (lt-ltb (held (t - 1)) (net.take (t - 1) t) (grind (arith, nat_tests)))
-      go false e = lowest_none (λ p. ltb (held p) (net.take p t)) k (λ p l. le-ltb (held p) (net.take p t) (grind (arith, nat_tests)))
+          lowest_at (λ q. ltb (held q) (net.take q t)) k p l
+          (λ q m. le-ltb (held q) (net.take q t) (grind (arith, nat_tests))) (lt-ltb (held p) (net.take p t) (grind (arith, nat_tests)))
+      go false e = lowest_none (λ q. ltb (held q) (net.take q t)) k (λ q m. le-ltb (held q) (net.take q t) (grind (arith, nat_tests)))
 
-  pub over_take_first : t ≡ 0 → over_place net held (λ p. net.take p t) ≡ None
-  over_take_first z =
-      lowest_none (λ p. ltb (net.limit p) (held p + net.take p t)) k (λ p l. le-ltb (net.limit p) (held p + net.take p t) (grind (arith, nat_tests, s.held p)))
+  -- of the move's gives or takes, added: no place gets any, or the place p gets one
+  module _ (added : ℕ → ℕ) where
+    pub over_none : ((q : ℕ) → q < k → added q ≡ 0) → over_place net held added ≡ None
+    over_none zero' = lowest_none (λ q. ltb (net.limit q) (held q + added q)) k (λ q m. le-ltb (net.limit q) (held q + added q) (grind (arith, nat_tests, s.held q, zero' q m)))
 
-  pub over_take_is : 1 ≤ t → over_place net held (λ p. net.take p t) ≡ then_some (ltb (t - 1) k && eqb (tokens (t - 1)) (limit (t - 1))) (t - 1)
-  over_take_is some = go (ltb (t - 1) k && eqb (tokens (t - 1)) (limit (t - 1))) refl
-    where
-      go : (b : Bool) → (ltb (t - 1) k && eqb (tokens (t - 1)) (limit (t - 1))) ≡ b → over_place net held (λ p. net.take p t) ≡ then_some b (t - 1)
-      go true e =
-          lowest_at (λ p. ltb (net.limit p) (held p + net.take p t)) k (t - 1) (grind (arith, nat_tests))
-          (λ p l. le-ltb (net.limit p) (held p + net.take p t) (grind (arith, nat_tests, s.held p)))
-          (lt-ltb (net.limit (t - 1)) (held (t - 1) + net.take (t - 1) t) (grind (arith, nat_tests)))
-      go false e =
-          lowest_none (λ p. ltb (net.limit p) (held p + net.take p t)) k (λ p l. le-ltb (net.limit p) (held p + net.take p t) (grind (arith, nat_tests, s.held p)))
+    pub over_is : (p : ℕ) → p < k → added p ≡ 1 → ((q : ℕ) → (q ≡ p → ⊥) → added q ≡ 0) → over_place net held added ≡ then_some (eqb (tokens p) (limit p)) p
+    over_is p l here else' = go (eqb (tokens p) (limit p)) refl
+      where
+        go : (b : Bool) → eqb (tokens p) (limit p) ≡ b → over_place net held added ≡ then_some b p
+        go true e =
+            lowest_at (λ q. ltb (net.limit q) (held q + added q)) k p l
+            (λ q m. le-ltb (net.limit q) (held q + added q) (grind (arith, nat_tests, s.held q, else' q (λ z. absurd (omega arith)))))
+            (lt-ltb (net.limit p) (held p + added p) (grind (arith, nat_tests, here)))
+        go false e =
+            lowest_none (λ q. ltb (net.limit q) (held q + added q)) k (λ q m. le-ltb (net.limit q) (held q + added q) (at q m (cases_eq q p)))
+          where
+            at : (q : ℕ) → q < k → (q ≡ p) ⊎ (q ≡ p → ⊥) → held q + added q ≤ net.limit q
+            at q m (inl z) = rw z (grind (arith, nat_tests, s.held p, here))
+            at q m (inr z) = grind (arith, nat_tests, s.held q, else' q z)
 
-  pub over_give_is : over_place net held (λ p. net.give p t) ≡ then_some (ltb t k && eqb (tokens t) (limit t)) t
-  over_give_is = go (ltb t k && eqb (tokens t) (limit t)) refl
-    where
-      go : (b : Bool) → (ltb t k && eqb (tokens t) (limit t)) ≡ b → over_place net held (λ p. net.give p t) ≡ then_some b t
-      go true e =
-          lowest_at (λ p. ltb (net.limit p) (held p + net.give p t)) k t (grind (arith, nat_tests))
-          (λ p l. le-ltb (net.limit p) (held p + net.give p t) (grind (arith, nat_tests, s.held p)))
-          (lt-ltb (net.limit t) (held t + net.give t t) (grind (arith, nat_tests)))
-      go false e =
-          lowest_none (λ p. ltb (net.limit p) (held p + net.give p t)) k (λ p l. le-ltb (net.limit p) (held p + net.give p t) (grind (arith, nat_tests, s.held p)))
+  pub over_take_none : cond (leb 1 t && ltb t (k + 1)) (Some (t - 1)) None ≡ None → over_place net held (λ p. net.take p t) ≡ None
+  over_take_none e = over_none (λ p. net.take p t) (λ q m. grind (arith, nat_tests))
+
+  pub over_take_is : (p : ℕ) → p < k → p + 1 ≡ t → over_place net held (λ p. net.take p t) ≡ then_some (eqb (tokens p) (limit p)) p
+  over_take_is p l here = over_is (λ p. net.take p t) p l (grind (arith, nat_tests)) (λ q z. grind (arith, nat_tests))
+
+  pub over_give_none : cond (ltb t k) (Some t) None ≡ None → over_place net held (λ p. net.give p t) ≡ None
+  over_give_none e = over_none (λ p. net.give p t) (λ q m. grind (arith, nat_tests))
+
+  pub over_give_is : (p : ℕ) → p < k → p ≡ t → over_place net held (λ p. net.give p t) ≡ then_some (eqb (tokens p) (limit p)) p
+  over_give_is p l here = over_is (λ p. net.give p t) p l (grind (arith, nat_tests)) (λ q z. grind (arith, nat_tests))
 
   -- what an accepted call tells of the place that it changes
   pub begin_ok : Ok tt ≡ begin_answer net held t → (p : ℕ) → p + 1 ≡ t → (p < k) × (1 ≤ tokens p)
@@ -82,10 +88,10 @@ module _ (s : Line) (t : ℕ) where
       let l : p < k = omega (arith, b.0) in
       (l, grind (arith, nat_tests, b.1 p l))
 
-  pub finish_ok : Ok tt ≡ finish_answer net held t → t < k → tokens t + 1 ≤ limit t
-  finish_ok e l =
+  pub finish_ok : Ok tt ≡ finish_answer net held t → (p : ℕ) → p < k → p ≡ t → tokens p + 1 ≤ limit p
+  finish_ok e p l here =
       let b : (t < k + 1) × ((q : ℕ) → q < k → held q + net.give q t ≤ net.limit q) = fits net held (λ q. net.give q t) t e in
-      grind (arith, nat_tests, b.1 t l)
+      grind (arith, nat_tests, b.1 p l)
 
 -- one place q has other tokens: x of them, in the slot v
 module _ (s : Line) (q : ℕ) (v : Slot) (x : ℕ) (is : v ≡ record { limit = (slot s.slots q).limit; tokens = x }) (in' : q < length s.slots) where
@@ -151,7 +157,7 @@ module _ (s : Line) (t : ℕ) where
       (rw (← e) (let l : q < s.count = (back_ok s t e q at).0 in grind (arith, nat_tests)))
       (λ p ne. rw (← e) (grind (arith, nat_tests)))
 
-  pub finished_is : (e : Ok tt ≡ finish_answer (net_of s) (tokens_of s) t) → t < s.count → (v : Slot) (is : v ≡ record { limit = (slot s.slots t).limit; tokens = (slot s.slots t).tokens + 1 }) (in' : t < length s.slots)
-      → (λ p. cond (ltb p s.count) (slot (changed s t v ((slot s.slots t).tokens + 1) is in') p).tokens 0) ≡ finished (net_of s) (tokens_of s) t
-  finished_is e l v is in' =
-      moved s t v _ is in' (finished (net_of s) (tokens_of s) t) l (rw (← e) (grind (arith, nat_tests))) (λ p ne. rw (← e) (grind (arith, nat_tests)))
+  pub finished_is : (e : Ok tt ≡ finish_answer (net_of s) (tokens_of s) t) (q : ℕ) → q < s.count → q ≡ t → (v : Slot) (is : v ≡ record { limit = (slot s.slots q).limit; tokens = (slot s.slots q).tokens + 1 }) (in' : q < length s.slots)
+      → (λ p. cond (ltb p s.count) (slot (changed s q v ((slot s.slots q).tokens + 1) is in') p).tokens 0) ≡ finished (net_of s) (tokens_of s) t
+  finished_is e q l at v is in' =
+      moved s q v _ is in' (finished (net_of s) (tokens_of s) t) l (rw (← e) (grind (arith, nat_tests))) (λ p ne. rw (← e) (grind (arith, nat_tests)))

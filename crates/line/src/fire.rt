@@ -1,7 +1,6 @@
 // The line as a net and as a plant.
-ghost use Rattle.std.specs.Prelude.{◌≡◌, ℕ, ◌≤◌, ◌&&◌, ◌==◌, nat_lt};
+ghost use Rattle.std.specs.Prelude.{◌≡◌, ℕ, ◌+◌, ◌-◌, ◌<◌, ◌≤◌, ◌&&◌, nat_lt, nat_le, if◌then◌else◌, Some, None, IfSome};
 ghost use Rattle.model.specs.Layer.{plant_alone};
-ghost use Rattle.line.specs.Slots.{slot};
 ghost use Rattle.line.specs.Lines.{net_of, tokens_of};
 ghost use Rattle.std.proofs.Common.{rules, arith};
 
@@ -11,22 +10,24 @@ use plant::net::Net;
 use plant::plant::Plant;
 
 impl Line {
-    // Whether the line has the place `p`, without tokens.
-    fn is_empty(&self, p: usize) -> bool
-        ensures { result ≡ (nat_lt p self.now.count && (slot self.now.slots p).tokens == 0) }
+    // The place that the move `t` takes from, if it takes from one: the one before it.
+    fn source(&self, t: usize) -> Option<usize>
+        ensures value { result ≡ (if nat_le 1 t && nat_lt t (self.now.count + 1) then Some (t - 1) else None) }
+        ensures place { IfSome result (λ p. (p < self.now.count) × (p + 1 ≡ t)) }
     {
-        self.slots[..self.count]
-            .get(p)
-            .is_some_and(|slot| slot.tokens == 0)
+        if 1 <= t && t < self.moves() {
+            Some(t - 1)
+        } else {
+            None
+        }
     }
 
-    // Whether the line has the place `p`, at its limit.
-    fn is_full(&self, p: usize) -> bool
-        ensures { result ≡ (nat_lt p self.now.count && (slot self.now.slots p).tokens == (slot self.now.slots p).limit) }
+    // The place that the move `t` gives to, if it gives to one: the one after it.
+    fn target(&self, t: usize) -> Option<usize>
+        ensures value { result ≡ (if nat_lt t self.now.count then Some t else None) }
+        ensures place { IfSome result (λ p. (p < self.now.count) × (p ≡ t)) }
     {
-        self.slots[..self.count]
-            .get(p)
-            .is_some_and(|slot| slot.tokens == slot.limit)
+        (t < self.count).then_some(t)
     }
 }
 
@@ -93,41 +94,42 @@ impl Plant for Line {
     }
 
     fn short_place(&self, t: usize) -> Option<usize> {
-        let p = t.checked_sub(1)?;
-        self.is_empty(p).then_some(p)
+        let from = self.source(t)?;
+        (self.slots[from].tokens == 0).then_some(from)
     }
 
     fn over_by_give(&self, t: usize) -> Option<usize> {
-        self.is_full(t).then_some(t)
+        let to = self.target(t)?;
+        self.slots[to].is_full().then_some(to)
     }
 
     fn over_by_take(&self, t: usize) -> Option<usize> {
-        let p = t.checked_sub(1)?;
-        self.is_full(p).then_some(p)
+        let from = self.source(t)?;
+        self.slots[from].is_full().then_some(from)
     }
 
     // Kept: this call and the next two. To provide them, `Plant` would need a public method with a `requires` where a refusal can stand;
     // one function of this and `back` would take `Slot::lower` or `Slot::raise`, each with a `requires` of its own.
     fn begin(&mut self, t: usize) -> Result<(), Fault> {
         self.may_begin(t)?;
-        if let Some(p) = t.checked_sub(1) {
-            self.slots[p].lower();
+        if let Some(from) = self.source(t) {
+            self.slots[from].lower();
         }
         Ok(())
     }
 
     fn finish(&mut self, t: usize) -> Result<(), Fault> {
         self.may_finish(t)?;
-        if t < self.count {
-            self.slots[t].raise();
+        if let Some(to) = self.target(t) {
+            self.slots[to].raise();
         }
         Ok(())
     }
 
     fn back(&mut self, t: usize) -> Result<(), Fault> {
         self.may_back(t)?;
-        if let Some(p) = t.checked_sub(1) {
-            self.slots[p].raise();
+        if let Some(from) = self.source(t) {
+            self.slots[from].raise();
         }
         Ok(())
     }

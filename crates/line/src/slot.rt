@@ -1,5 +1,5 @@
 // One place of the line.
-ghost use Rattle.std.specs.Prelude.{◌≡◌, ◌+◌, ◌-◌, ◌<◌, ◌≤◌};
+ghost use Rattle.std.specs.Prelude.{◌≡◌, ◌==◌, ◌+◌, ◌-◌, ◌<◌, ◌≤◌};
 
 use net_text::net::Place;
 
@@ -24,6 +24,12 @@ impl Slot {
             limit: place.limit,
             tokens: place.tokens,
         }
+    }
+
+    pub(crate) fn is_full(&self) -> bool
+        ensures { result ≡ (self.now.tokens == self.now.limit) }
+    {
+        self.tokens == self.limit
     }
 
     // Takes one token.

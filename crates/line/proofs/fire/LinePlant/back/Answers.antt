@@ -5,21 +5,21 @@ use Rattle.line.proofs.Firing.{back_ok, gone_back_is, some_changed, small_change
 use Rattle.line.proofs.fire.LinePlant.back.Goals as goal
 
 pub raise-requires : goal.raise-requires
-raise-requires c = let s = c.args.self.now in omega (arith, (back_ok s c.args.t c.in_ok-may_back.ensures c.in-Some.p (omega arith)).1)
+raise-requires c = let s = c.args.self.now in omega (arith, (back_ok s c.args.t c.in_ok-may_back.ensures c.in-Some.from c.in-Some.ensures.place.1).1)
 
 pub invariant_of-self-clause-some_limits : goal.invariant_of-self-clause-some_limits
-invariant_of-self-clause-some_limits c = let s = c.args.self.now in some_changed s c.in-Some.p c.raise.new.self _ c.raise.ensures (omega (arith, (back_ok s c.args.t c.in_ok-may_back.ensures c.in-Some.p (omega arith)).0))
+invariant_of-self-clause-some_limits c = let s = c.args.self.now in some_changed s c.in-Some.from c.raise.new.self _ c.raise.ensures (omega (arith, (back_ok s c.args.t c.in_ok-may_back.ensures c.in-Some.from c.in-Some.ensures.place.1).0))
 
 pub invariant_of-self-clause-small_limits : goal.invariant_of-self-clause-small_limits
-invariant_of-self-clause-small_limits c = let s = c.args.self.now in small_changed s c.in-Some.p c.raise.new.self _ c.raise.ensures (omega (arith, (back_ok s c.args.t c.in_ok-may_back.ensures c.in-Some.p (omega arith)).0))
+invariant_of-self-clause-small_limits c = let s = c.args.self.now in small_changed s c.in-Some.from c.raise.new.self _ c.raise.ensures (omega (arith, (back_ok s c.args.t c.in_ok-may_back.ensures c.in-Some.from c.in-Some.ensures.place.1).0))
 
 pub invariant_of-self-clause-held : goal.invariant_of-self-clause-held
-invariant_of-self-clause-held c = let s = c.args.self.now in held_changed s c.in-Some.p c.raise.new.self _ c.raise.ensures (omega (arith, (back_ok s c.args.t c.in_ok-may_back.ensures c.in-Some.p (omega arith)).0)) ((back_ok s c.args.t c.in_ok-may_back.ensures c.in-Some.p (omega arith)).1)
+invariant_of-self-clause-held c = let s = c.args.self.now in held_changed s c.in-Some.from c.raise.new.self _ c.raise.ensures (omega (arith, (back_ok s c.args.t c.in_ok-may_back.ensures c.in-Some.from c.in-Some.ensures.place.1).0)) ((back_ok s c.args.t c.in_ok-may_back.ensures c.in-Some.from c.in-Some.ensures.place.1).1)
 
 pub returns-in-Some : goal.returns-in-Some
 returns-in-Some c =
     let s = c.args.self.now in
     let e = c.in_ok-may_back.ensures in
-    let same = same_net s c.in-Some.p c.raise.new.self _ c.raise.ensures (omega (arith, (back_ok s c.args.t c.in_ok-may_back.ensures c.in-Some.p (omega arith)).0)) in
-    let after = gone_back_is s c.args.t e c.in-Some.p (omega arith) c.raise.new.self c.raise.ensures (omega (arith, (back_ok s c.args.t c.in_ok-may_back.ensures c.in-Some.p (omega arith)).0)) in
+    let same = same_net s c.in-Some.from c.raise.new.self _ c.raise.ensures (omega (arith, (back_ok s c.args.t c.in_ok-may_back.ensures c.in-Some.from c.in-Some.ensures.place.1).0)) in
+    let after = gone_back_is s c.args.t e c.in-Some.from c.in-Some.ensures.place.1 c.raise.new.self c.raise.ensures (omega (arith, (back_ok s c.args.t c.in_ok-may_back.ensures c.in-Some.from c.in-Some.ensures.place.1).0)) in
     record { answer = e; same = same; after = after; whole = alone_gone_back (net_of s) _ (tokens_of s) _ c.args.t _ same e after }

@@ -1,9 +1,9 @@
-use Rattle.std.proofs.Common.{sym, ◌∙◌, arith}
-use Rattle.line.proofs.Firing.{short_first, short_is}
+use Rattle.std.proofs.Common.{sym, ◌∙◌}
+use Rattle.line.proofs.Firing.{short_is, short_none}
 use Rattle.line.proofs.fire.LinePlant.short_place.Goals as goal
 
-pub returns-in_err-p : goal.returns-in_err-p
-returns-in_err-p c = c.from_residual.ensures ∙ sym (short_first c.args.self.now c.args.t (omega (arith, c.in_err-p.ensures)))
+pub returns-in_err-from : goal.returns-in_err-from
+returns-in_err-from c = c.from_residual.ensures ∙ sym (short_none c.args.self.now c.args.t (sym c.in_err-from.ensures.value))
 
 pub returns : goal.returns
-returns c = grind (arith, short_is c.args.self.now c.args.t)
+returns c = c.then_some.ensures ∙ sym (short_is c.args.self.now c.args.t c.in_ok-from.from c.in_ok-from.ensures.place.0 c.in_ok-from.ensures.place.1)
