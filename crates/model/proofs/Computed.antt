@@ -3,12 +3,16 @@ use Rattle.std.proofs.Common.{ℕ, zero, suc, ◌≤◌, [], ◌∷◌, refl, li
 use Rattle.model.specs.Net.{Ranges}
 use Rattle.model.specs.Working.{rounds_from, unchanged}
 use Rattle.model.specs.Layer.{bare, monitored, boarded, monitor_set}
-use Rattle.model.specs.Cases.{AsMarked, marked_cases, controllable_move, uncontrollable_move, example_net, example_free, zone, ExampleBuilt}
+use Rattle.model.specs.Cases.{AsMarked, marked_cases, numbered_cases, controllable_move, uncontrollable_move, example_net, example_free, zone, ExampleBuilt}
 use Rattle.model.proofs.SmallNets.{small_ranges}
 
 pub cases_hold : AsMarked marked_cases
 unfolding rounds_from
 cases_hold = (refl, (refl, (refl, (refl, (refl, (refl, (refl, (refl, (refl, (refl, (refl, (refl, (refl, tt)))))))))))))
+
+pub numbers_hold : AsMarked numbered_cases
+unfolding rounds_from
+numbers_hold = (refl, (refl, (refl, (refl, (refl, (refl, (refl, (refl, (refl, (refl, (refl, (refl, (refl, tt)))))))))))))
 
 example_ranges : Ranges example_net
 example_ranges = small_ranges (5 ∷ 4 ∷ 9 ∷ []) (controllable_move (1 ∷ []) (0 ∷ 1 ∷ []) ∷ uncontrollable_move (0 ∷ 1 ∷ []) (0 ∷ 0 ∷ 1 ∷ []) ∷ controllable_move (0 ∷ 0 ∷ 1 ∷ []) (1 ∷ []) ∷ []) (lit≤ tt) (lit≤ tt) (lit≤ tt) (lit≤ tt) refl refl

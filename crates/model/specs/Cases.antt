@@ -8,13 +8,14 @@
 --   works, sets, sets_and_shows, calls   what comes of working a rule, of setting it on a monitor, of calls on a new ledger
 --   Case              what came of a case, and what must
 --   marked_cases      the list of cases
+--   numbered_cases    a list of more, so that each refusal of a call or a setting is met by its number
 --   AsMarked          each case of a list came out as it must
 --   ExampleBuilt      the worked example's pile is built as piles are
 use Rattle.std.specs.Prelude.{◌≡◌, ℕ, zero, suc, Bool, true, false, List, [], ◌∷◌, ℤ, pos, negsuc, Some, None, Ok, Err, Option, Result}
 use Rattle.model.specs.declared.fault.Fault.{Fault}
 use Rattle.model.specs.Refusals.{refusal_number}
 use Rattle.model.specs.Net.{Net}
-use Rattle.model.specs.Plant.{Answer, named_place}
+use Rattle.model.specs.Plant.{Answer, named_place, finish_answer, back_answer}
 use Rattle.model.specs.Rule.{Rule, Worked}
 use Rattle.model.specs.Working.{work, unchanged}
 use Rattle.model.specs.Layer.{Pile, monitor, board, plant_alone, pile_free, with_layer, monitor_answer, InForce, Built}
@@ -230,6 +231,53 @@ marked_cases =
     ∷ record { came = tokens (pile_free (run (new_ledger example_cell) orders).pile 4) ∷ []; must = tokens 1 ∷ [] }
     -- the 200th open grant passes, the 201st does not
     ∷ record { came = after_grants 199 ∷ after_grants 200 ∷ []; must = passed ∷ refused 33 None ∷ [] }
+    ∷ []
+
+-- ---- the refusals that those cases have not, each by its number
+-- each of three places is filled from the next by a move that nobody holds up, which takes one there and gives nine
+abbrev pub steep : Net
+steep = small_net (999 ∷ 999 ∷ 999 ∷ 999 ∷ []) (
+    uncontrollable_move (0 ∷ 1 ∷ []) (9 ∷ [])
+    ∷ uncontrollable_move (0 ∷ 0 ∷ 1 ∷ []) (0 ∷ 9 ∷ [])
+    ∷ uncontrollable_move (0 ∷ 0 ∷ 0 ∷ 1 ∷ []) (0 ∷ 0 ∷ 9 ∷ [])
+    ∷ [])
+
+-- the worked example's net with so many places, the rest control places
+abbrev pub with_places : ℕ → Net
+with_places k = record {
+  ground_places = 3;
+  places = k;
+  moves = 3;
+  controllable = example_net.controllable;
+  take = example_net.take;
+  give = example_net.give;
+  limit = example_net.limit;
+  layer = λ p. 0;
+  row = λ p. 0;
+}
+
+abbrev pub numbered_cases : List Case
+numbered_cases =
+    -- the move 3 is not there; out is a sensor's move, and in a driver's
+    record { came = calls example_cell (grant 3 ∷ report 3 ∷ commit 3 ∷ cancel 3 ∷ grant 1 ∷ report 0 ∷ []); must = refused 30 None ∷ refused 30 None ∷ refused 30 None ∷ refused 30 None ∷ refused 31 None ∷ refused 32 None ∷ [] }
+    -- none of the move is open, though one of another is
+    ∷ record { came = calls example_cell (grant 0 ∷ commit 2 ∷ cancel 2 ∷ commit 0 ∷ commit 0 ∷ []); must = passed ∷ refused 36 None ∷ refused 36 None ∷ passed ∷ refused 36 None ∷ [] }
+    -- no rule while a grant is open; then one in the row 0, and no other there; the rows are 0 to 11
+    ∷ record { came = calls example_cell (grant 0 ∷ admit 0 keep ∷ cancel 0 ∷ admit 0 keep ∷ admit 0 keep ∷ admit 12 keep ∷ admit 11 keep ∷ []); must = passed ∷ refused 37 None ∷ passed ∷ passed ∷ refused 39 None ∷ refused 38 None ∷ passed ∷ [] }
+    -- weights and bounds that can be typed, and the next
+    ∷ record { came = sets example_net example_free (rule_of (pos 100 ∷ []) (pos 9)) ; must = refused 25 None ∷ [] }
+    ∷ record { came = sets example_net example_free (rule_of (pos 99 ∷ []) (pos 999999)) ; must = passed ∷ [] }
+    ∷ record { came = sets example_net example_free (rule_of (pos 99 ∷ []) (pos 1000000)) ; must = refused 25 None ∷ [] }
+    -- 11, 99 and 891 at the three places, and then 8,019; of 99 it would be 72,171
+    ∷ record { came = works steep (rule_of (pos 11 ∷ []) (pos 5)); must = worked_to (pos 11 ∷ pos 99 ∷ pos 891 ∷ pos 8019 ∷ []) (pos 5) 3 ∷ [] }
+    ∷ record { came = works steep (rule_of (pos 99 ∷ []) (pos 5)); must = refused 21 None ∷ [] }
+    -- a monitor over 63 places is set, over 64 it is shut; so is a board over 53
+    ∷ record { came = sets (with_places 63) example_free zone; must = passed ∷ [] }
+    ∷ record { came = sets (with_places 64) example_free zone; must = refused 24 None ∷ [] }
+    ∷ record { came = calls (with_layer board (plant_alone (with_places 52) example_free)) (admit 0 zone ∷ []); must = passed ∷ [] }
+    ∷ record { came = calls (with_layer board (plant_alone (with_places 53) example_free)) (admit 0 zone ∷ []); must = refused 24 None ∷ [] }
+    -- the first place of the line is full: nothing can be given there, nor given back
+    ∷ record { came = outcome_of (finish_answer line line_free 0) ∷ outcome_of (back_answer line line_free 1) ∷ []; must = refused 40 (Some 0) ∷ refused 40 (Some 0) ∷ [] }
     ∷ []
 
 -- the rule in force on the worked example's pile: Z ≤ 2, which no round changes, at the monitor's place
