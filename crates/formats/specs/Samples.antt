@@ -8,9 +8,11 @@
 --   FixedWrong t c i the one line that is spelled t is refused with c at the byte i
 --   plain_part       a part of a sum with no number; weighing: the parts of A+2*B-A; zone_and_keep: two rules
 --   RulesSamples     rules texts and sums
-use Rattle.std.specs.Prelude.{◌≡◌, ℕ, Bool, true, false, cond, List, [], ◌∷◌, ◌++◌, pos, negsuc, Some, None, Ok, Err, codes, Result, ◌==◌}
+--   text_refusals    the refusals of texts, in the order of the table; NumbersInOrder: their numbers, 10 to 19
+use Rattle.std.specs.Prelude.{◌≡◌, ℕ, Bool, true, false, cond, List, [], ◌∷◌, ◌++◌, map, pos, negsuc, Some, None, Ok, Err, codes, Result, ◌==◌}
 use Rattle.model.specs.declared.refusal.Refusal.{Refusal}
-use Rattle.model.specs.declared.refusal.Refusal.TheVariants.{Form, Byte, NoRecord, Field, NameTaken, NameUnknown, ArcNotAllowed, NotOfKind, Sum}
+use Rattle.model.specs.declared.refusal.Refusal.TheVariants.{Form, Byte, NoRecord, Field, NameTaken, NameUnknown, TooMany, ArcNotAllowed, NotOfKind, Sum}
+use Rattle.model.specs.Refusals.{refusal_number}
 use Rattle.formats.specs.declared.kind.Kind.TheVariants.{Net}
 use Rattle.formats.specs.declared.fault.TextFault.{TextFault}
 use Rattle.formats.specs.Texts.{fault}
@@ -108,3 +110,10 @@ pub record RulesSamples : Type 0 where
   pub long_bound : FixedWrong (codes "fixed zone A 1000000,") Field 13
   pub second_line : RulesSaid (codes "fixed zone Z 2,rule keep Q 1,") (Err (fault NameUnknown 2 25))
   pub no_fixed : FixedWrong (codes "rule zone A 2,") NoRecord 0
+
+-- ---- the numbers by which the refusals of texts are printed, in the order of the table
+abbrev pub text_refusals : List Refusal
+text_refusals = Form ∷ Byte ∷ NoRecord ∷ Field ∷ NameTaken ∷ NameUnknown ∷ TooMany ∷ ArcNotAllowed ∷ NotOfKind ∷ Sum ∷ []
+
+abbrev pub NumbersInOrder : Type 0
+NumbersInOrder = map refusal_number text_refusals ≡ 10 ∷ 11 ∷ 12 ∷ 13 ∷ 14 ∷ 15 ∷ 16 ∷ 17 ∷ 18 ∷ 19 ∷ []

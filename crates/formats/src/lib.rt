@@ -1,7 +1,7 @@
 #![tactic(auto)]
 
 ghost use Rattle.formats.specs.Laws.{NetExact, NetRefusals, NetDecided, RulesExact, RulesRefusals, RulesDecided};
-ghost use Rattle.formats.specs.Samples.{NetSamples, RulesSamples};
+ghost use Rattle.formats.specs.Samples.{NetSamples, NumbersInOrder, RulesSamples};
 ghost use Rattle.formats.specs.Sums.{SumExact, SumRefusals, WeightPush, WeightsIn};
 
 pub mod fault;
@@ -57,8 +57,9 @@ pub fn weights_in()
     ensures { WeightsIn }
 {}
 
-// Some texts and sums, each with what reading it answers.
+// Some texts and sums, each with what reading it answers, and the numbers of the refusals of texts.
 pub fn samples_read()
     ensures net { NetSamples }
     ensures rules { RulesSamples }
+    ensures numbers { NumbersInOrder }
 {}

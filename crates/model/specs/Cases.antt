@@ -265,9 +265,9 @@ numbered_cases =
     -- no rule while a grant is open; then one in the row 0, and no other there; the rows are 0 to 11
     ∷ record { came = calls example_cell (grant 0 ∷ admit 0 keep ∷ cancel 0 ∷ admit 0 keep ∷ admit 0 keep ∷ admit 12 keep ∷ admit 11 keep ∷ []); must = passed ∷ refused 37 None ∷ passed ∷ passed ∷ refused 39 None ∷ refused 38 None ∷ passed ∷ [] }
     -- weights and bounds that can be typed, and the next
-    ∷ record { came = sets example_net example_free (rule_of (pos 100 ∷ []) (pos 9)) ; must = refused 25 None ∷ [] }
-    ∷ record { came = sets example_net example_free (rule_of (pos 99 ∷ []) (pos 999999)) ; must = passed ∷ [] }
-    ∷ record { came = sets example_net example_free (rule_of (pos 99 ∷ []) (pos 1000000)) ; must = refused 25 None ∷ [] }
+    ∷ record { came = sets example_net example_free (rule_of (pos 100 ∷ []) (pos 9)); must = refused 25 None ∷ [] }
+    ∷ record { came = sets example_net example_free (rule_of (pos 99 ∷ []) (pos 999999)); must = passed ∷ [] }
+    ∷ record { came = sets example_net example_free (rule_of (pos 99 ∷ []) (pos 1000000)); must = refused 25 None ∷ [] }
     -- 11, 99 and 891 at the three places, and then 8,019; of 99 it would be 72,171
     ∷ record { came = works steep (rule_of (pos 11 ∷ []) (pos 5)); must = worked_to (pos 11 ∷ pos 99 ∷ pos 891 ∷ pos 8019 ∷ []) (pos 5) 3 ∷ [] }
     ∷ record { came = works steep (rule_of (pos 99 ∷ []) (pos 5)); must = refused 21 None ∷ [] }

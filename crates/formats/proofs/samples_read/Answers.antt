@@ -1,3 +1,4 @@
+use Rattle.std.proofs.Common.{refl}
 use Rattle.formats.proofs.Samples.{net_samples, rules_samples}
 use Rattle.formats.proofs.samples_read.Goals as goal
 
@@ -6,3 +7,6 @@ returns-clause-net c = net_samples
 
 pub returns-clause-rules : goal.returns-clause-rules
 returns-clause-rules c = rules_samples
+
+pub returns-clause-numbers : goal.returns-clause-numbers
+returns-clause-numbers c = refl
