@@ -4,6 +4,6 @@
 pub mod example;
 mod obey;
 pub mod order;
-pub mod print;
+mod print;
 pub mod run;
 pub mod said;

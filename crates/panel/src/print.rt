@@ -8,7 +8,7 @@ use std::alloc::AllocError;
 use std::io::Write;
 
 // `bad WHICH NUMBER LINE BYTE`: a text is refused.
-pub fn put_bad(out: &mut Vec<u8>, which: &[u8], fault: TextFault) -> Result<(), AllocError>
+pub(crate) fn put_bad(out: &mut Vec<u8>, which: &[u8], fault: TextFault) -> Result<(), AllocError>
     ensures { OnOk result (out.new.items ≡ out.old.items ++ bad_line which.now fault) }
 {
     out.extend_from_slice(b"bad\t")?;
@@ -24,7 +24,7 @@ pub fn put_bad(out: &mut Vec<u8>, which: &[u8], fault: TextFault) -> Result<(), 
 }
 
 // `at NAME FREE`: the free tokens of a place.
-pub fn put_at(out: &mut Vec<u8>, name: &[u8], free: u32) -> Result<(), AllocError>
+pub(crate) fn put_at(out: &mut Vec<u8>, name: &[u8], free: u32) -> Result<(), AllocError>
     ensures { OnOk result (out.new.items ≡ out.old.items ++ at_line name.now free) }
 {
     out.extend_from_slice(b"at\t")?;
@@ -33,14 +33,14 @@ pub fn put_at(out: &mut Vec<u8>, name: &[u8], free: u32) -> Result<(), AllocErro
 }
 
 // `ok`: a call is accepted.
-pub fn put_ok(out: &mut Vec<u8>) -> Result<(), AllocError>
+pub(crate) fn put_ok(out: &mut Vec<u8>) -> Result<(), AllocError>
     ensures { OnOk result (out.new.items ≡ out.old.items ++ ok_line) }
 {
     out.extend_from_slice(b"ok\n")
 }
 
 // `no NUMBER MOVE PLACE`: an order is refused, with the move and the place by name, `-` where there is none.
-pub fn put_no(
+pub(crate) fn put_no(
     out: &mut Vec<u8>,
     refusal: Refusal,
     transition: &[u8],
