@@ -20,7 +20,7 @@ use Rattle.texts.specs.Lines.{text_check}
 use Rattle.panel.proofs.Following.{follows}
 use Rattle.panel.specs.Prints.{bad_line}
 use Rattle.panel.specs.Cells.{Cell, net_by, plant_net}
-use Rattle.panel.specs.Orders.{start_monitor, start_pile, BuiltCell, answers, ran_with, ran_on, ran}
+use Rattle.panel.specs.Orders.{start_monitor, start_pile, BuiltCell, Started, Answered, answers, ran_with, ran_on, ran}
 
 -- a plant of any kind has ground places alone
 pub plant_bare : (x : NetText) → (plant_net x).places ≡ (plant_net x).ground_places
@@ -68,6 +68,10 @@ module _ (c : Cell) (n : Net) (free : ℕ → ℕ) (typed : Rule) (net : n ≡ c
       ran_set e p l new s =
           ap (λ (m : Ledger). answers c m (lines orders)) (new ∙ ap new_ledger (started p s))
           ∙ (λ i. ran_with c orders ((e ∙ monitored) i)) ∙ (λ i. ran_on c orders (fine i))
+
+-- the orders that a cell has run, by the whole of what it prints
+pub answered : (c : Cell) (orders out : List ℕ) → Started c orders → out ≡ ran c orders → Answered c orders out
+answered c orders out s e = λ fine set. (s fine set, e ∙ ap (ran_on c orders) (sym fine) ∙ ap (ran_with c orders) (sym set))
 
 -- ---- answers
 pub on_ok : {A E : Type 0} (r : Result A E) (P : Type 0) → P → OnOk r P

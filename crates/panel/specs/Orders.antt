@@ -15,6 +15,8 @@
 --                    promise holds after every list of calls on it; and the order lines ys after the lines xs print what ys alone would
 --                    print on the ledger after the calls of xs
 --   Started          where the orders pass the checks of the whole text and the fixed rule can be set, the pile is BuiltCell
+--   Answered         where the orders pass the checks of the whole text and the fixed rule can be set, the pile is BuiltCell, and the bytes
+--                    out are what the lines of the orders print, one after the other, from the new ledger on that pile
 --   ran_with         what the orders print, by what setting the fixed rule answers
 --   ran_on           the same, by what the checks of the whole orders text answer
 --   ran c orders     what the orders print on the cell
@@ -124,6 +126,9 @@ pub record BuiltCell (c : Cell) : Type 0 where
 
 abbrev pub Started : Cell → List ℕ → Type 0
 Started c orders = Ok tt ≡ text_check orders → Ok tt ≡ monitor_answer (start_monitor c) c.typed_fixed → BuiltCell c
+
+abbrev pub Answered : Cell → List ℕ → List ℕ → Type 0
+Answered c orders out = Ok tt ≡ text_check orders → Ok tt ≡ monitor_answer (start_monitor c) c.typed_fixed → BuiltCell c × (out ≡ answers c (new_ledger (start_pile c)) (lines orders))
 
 abbrev pub ran_with : Cell → List ℕ → Answer → List ℕ
 ran_with c orders (Err f) = bad_line (codes "fixed") (fault f.refusal 1 0)

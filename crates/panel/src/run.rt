@@ -9,7 +9,7 @@ ghost use Rattle.formats.specs.declared.fault.TextFault.{TextFault};
 ghost use Rattle.formats.specs.Texts.{Proper, fault, written};
 ghost use Rattle.net_text.specs.Nets.{net_of};
 ghost use Rattle.panel.specs.Prints.{bad_line};
-ghost use Rattle.panel.specs.Orders.{Started, ran};
+ghost use Rattle.panel.specs.Orders.{Started, Answered, ran};
 ghost use Rattle.panel.specs.Cells.{cell_of};
 ghost use Rattle.panel.specs.Said.{cell_said};
 ghost use Rattle.panel.specs.Run.{by_rules, printed};
@@ -121,7 +121,7 @@ fn run_rules<'a>(
 pub fn panel(alloc: Global, net: &[u8], rules: &[u8], orders: &[u8]) -> Result<Vec<u8>, AllocError>
     ensures printed { IfOk result (λ v. v.items ≡ printed net.now rules.now orders.now) }
     ensures proper { (x : NetSaid) (y : RulesSaid) → Proper net_meaning x → net.now ≡ written net_meaning x → Proper (rules_meaning (names x) (place_names x)) y → rules.now ≡ written (rules_meaning (names x) (place_names x)) y → IfOk result (λ v. v.items ≡ ran (cell_of x y) orders.now) }
-    ensures built { (x : NetSaid) (y : RulesSaid) → Proper net_meaning x → net.now ≡ written net_meaning x → Proper (rules_meaning (names x) (place_names x)) y → rules.now ≡ written (rules_meaning (names x) (place_names x)) y → IfOk result (λ v. Started (cell_of x y) orders.now) }
+    ensures built { (x : NetSaid) (y : RulesSaid) → Proper net_meaning x → net.now ≡ written net_meaning x → Proper (rules_meaning (names x) (place_names x)) y → rules.now ≡ written (rules_meaning (names x) (place_names x)) y → IfOk result (λ v. Answered (cell_of x y) orders.now v.items) }
 {
     let mut out = Vec::new(alloc);
     match read_net(alloc, net) {

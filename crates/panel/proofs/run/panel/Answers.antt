@@ -9,7 +9,7 @@ use Rattle.panel.specs.Cells.{cell_of}
 use Rattle.panel.specs.Orders.{Started}
 use Rattle.panel.specs.Prints.{bad_line}
 use Rattle.panel.specs.Run.{by_rules, by_net}
-use Rattle.panel.proofs.Started.{only_one}
+use Rattle.panel.proofs.Started.{only_one, answered}
 use Rattle.panel.proofs.run.panel.Goals as goal
 use Rattle.panel.proofs.run.panel.Goals.{in-Ok+in_ok-run_rules-in-Ok, in-Err+in_ok-put_stop-in-Err}
 
@@ -40,7 +40,8 @@ returns-clause-proper c = λ x y p w q v.
 
 pub returns-clause-built : goal.returns-clause-built
 returns-clause-built c = λ x y p w q v.
-    elim c.match-read_net.branch [
+    answered (cell_of x y) c.args.orders.now _
+    (elim c.match-read_net.branch [
       | in-Ok+in_ok-run_rules-in-Ok k ↦
           let read : NetText = net_of c.args.net.now k.in-Ok.read in
           let same : read ≡ x = only_one (sym k.in-Ok.ensures.answer ∙ (net_exact c.args.net.now x).1 p w) in
@@ -50,4 +51,5 @@ returns-clause-built c = λ x y p w q v.
       | in-Err+in_ok-put_stop-in-Err k ↦
           let not_written = rw k.in_ok-put_stop-in-Err.ensures.1 at k.in-Err.ensures.accepted in
           absurd (not_written x p w)
-    ]
+    ])
+    (returns-clause-proper c x y p w q v)
