@@ -7,3 +7,4 @@ pub mod Computed
 pub mod Started
 pub mod Making
 pub mod Same
+pub mod Bad

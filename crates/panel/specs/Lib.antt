@@ -4,4 +4,5 @@ pub mod Said
 pub mod Orders
 pub mod Asked
 pub mod Run
+pub mod Bad
 pub mod Example

@@ -1,7 +1,7 @@
 use Rattle.std.proofs.Common.{◌≡◌, ℕ, List, ◌++◌, Result, Ok, vec_items, codes, sym, ap, ◌∙◌, subst}
 use Rattle.formats.specs.declared.fault.TextFault.{TextFault}
 use Rattle.formats.specs.NetText.{NetText, names, place_names}
-use Rattle.formats.specs.RulesText.{RulesText, read_rules}
+use Rattle.formats.specs.RulesText.{read_rules}
 use Rattle.formats.proofs.NetLaws.{net_exact}
 use Rattle.formats.proofs.RulesLaws.{rules_exact}
 use Rattle.net_text.specs.Nets.{net_of}
@@ -9,6 +9,8 @@ use Rattle.panel.specs.Cells.{cell_of}
 use Rattle.panel.specs.Orders.{Started}
 use Rattle.panel.specs.Prints.{bad_line}
 use Rattle.panel.specs.Run.{by_rules, by_net}
+use Rattle.panel.specs.Bad.{BadPrinted}
+use Rattle.panel.proofs.Bad.{texts_ran, bad_printed}
 use Rattle.panel.proofs.Started.{only_one, answered}
 use Rattle.panel.proofs.run.panel.Goals as goal
 use Rattle.panel.proofs.run.panel.Goals.{in-Ok+in_ok-run_rules-in-Ok, in-Err+in_ok-put_stop-in-Err}
@@ -35,8 +37,7 @@ returns-clause-printed c =
 pub returns-clause-proper : goal.returns-clause-proper
 returns-clause-proper c = λ x y p w q v.
     returns-clause-printed c
-    ∙ ap (λ (r : Result NetText TextFault). by_net r c.args.rules.now c.args.orders.now) ((net_exact c.args.net.now x).1 p w)
-    ∙ ap (λ (r : Result RulesText TextFault). by_rules x r c.args.orders.now) ((rules_exact x p.right c.args.rules.now y).1 q v)
+    ∙ texts_ran c.args.net.now c.args.rules.now c.args.orders.now x y (record { net_proper = p; net_written = w; rules_proper = q; rules_written = v })
 
 pub returns-clause-built : goal.returns-clause-built
 returns-clause-built c = λ x y p w q v.
@@ -53,3 +54,6 @@ returns-clause-built c = λ x y p w q v.
           absurd (not_written x p w)
     ])
     (returns-clause-proper c x y p w q v)
+
+pub returns-clause-refused : goal.returns-clause-refused
+returns-clause-refused c = subst (BadPrinted c.args.net.now c.args.rules.now c.args.orders.now) (sym (returns-clause-printed c)) (bad_printed c.args.net.now c.args.rules.now c.args.orders.now)
