@@ -8,3 +8,4 @@ pub mod Started
 pub mod Making
 pub mod Same
 pub mod Bad
+pub mod Refusing

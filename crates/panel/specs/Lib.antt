@@ -6,3 +6,4 @@ pub mod Asked
 pub mod Run
 pub mod Bad
 pub mod Example
+pub mod Refusals
