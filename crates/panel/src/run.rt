@@ -13,7 +13,7 @@ ghost use Rattle.panel.specs.Orders.{Started, Answered, ran};
 ghost use Rattle.panel.specs.Cells.{cell_of};
 ghost use Rattle.panel.specs.Said.{cell_said};
 ghost use Rattle.panel.specs.Run.{by_rules, printed};
-ghost use Rattle.panel.specs.Bad.{BadPrinted};
+ghost use Rattle.panel.specs.Bad.{OrdersDecided, BadPrinted};
 
 use crate::obey::obey_all;
 use crate::order::typed;
@@ -138,3 +138,8 @@ pub fn panel(alloc: Global, net: &[u8], rules: &[u8], orders: &[u8]) -> Result<V
     }
     Ok(out)
 }
+
+// Each orders text passes the checks of the whole text or is refused with one fault, never both.
+pub fn orders_decided()
+    ensures { OrdersDecided }
+{}
