@@ -1,2 +1,3 @@
 pub mod Calls
 pub mod Building
+pub mod Ringed

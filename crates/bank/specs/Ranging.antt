@@ -17,7 +17,7 @@ arc_most n p t q = grind (arith, nat_tests)
 arc_no_place : (n p t q : ℕ) → n ≤ p → arc n p t q ≡ 0
 arc_no_place n p t q h = grind (arith, nat_tests)
 
-arc_no_move : (n p t q : ℕ) → n ≤ t → arc n p t q ≡ 0
+pub arc_no_move : (n p t q : ℕ) → n ≤ t → arc n p t q ≡ 0
 arc_no_move n p t q h = grind (arith, nat_tests)
 
 pub limit_of : (n p : ℕ) → p < n → ◌≡◌ {A = ℕ} (cond (nat_lt p n) 1 0) 1

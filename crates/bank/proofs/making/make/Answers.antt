@@ -1,4 +1,4 @@
-use Rattle.std.proofs.Common.{◌≡◌, ℕ, false, eqb, length, get_or, map, vec_items, refl, ◌∙◌, rules, tests}
+use Rattle.std.proofs.Common.{◌≡◌, ℕ, ◌%◌, false, ap, eqb, length, get_or, map, vec_items, refl, ◌∙◌, rules, tests}
 use Rattle.net_text.specs.declared.net.Place.{Place}
 use Rattle.net_text.specs.declared.net.Move.{Move}
 use Rattle.net_text.specs.Nets.{no_place, no_move, tokens_at, letter_at}
@@ -6,6 +6,7 @@ use Rattle.plant.proofs.Made.{mapped}
 use Rattle.bank.specs.Banks.{letter}
 use Rattle.bank.specs.Making.{BankText}
 use Rattle.bank.proofs.Building.{made_net, made_tokens}
+use Rattle.bank.proofs.Ringed.{bank_machines}
 use Rattle.bank.proofs.making.make.Goals as goal
 
 pub returns : goal.returns
@@ -23,6 +24,7 @@ returns c =
       text,
       record {
         net = made_net c.len.result c.bits-2.result (length ps) ms counted letters;
+        machines = bank_machines c.len.result (letter c.bits-2.result) (ap (λ (n : ℕ). n % 4) counted ∙ text.shaped.whole);
         tokens = made_tokens c.bits.result ps text.single tokens;
       },
     )
