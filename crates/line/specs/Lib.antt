@@ -1,3 +1,4 @@
 pub mod Slots
 pub mod Lines
+pub mod Flows
 pub mod Making

@@ -3,7 +3,7 @@
 --   Slots            all of the records are
 --   LineText         the net texts that tell of a line
 --   text_net, text_tokens  the net and the tokens that a text tells of, if it tells of a line
---   Tells            the text n tells of the line l
+--   Tells            the text n tells of the line l, whose net flows as a line does
 --   Made             what is made of a net text: such a line, or nothing if it does not tell of one
 use Rattle.std.specs.Prelude.{◌≡◌, ℕ, ◌+◌, ◌<◌, ◌≤◌, List, length, Some, None, vec_items, Option, slice_index_or}
 use Rattle.model.specs.Net.{Net}
@@ -14,6 +14,7 @@ use Rattle.net_text.specs.declared.net.NetText.{NetText}
 use Rattle.net_text.specs.Nets.{no_place, limit_at, tokens_at, letter_at}
 use Rattle.line.specs.declared.line.Line.{Line}
 use Rattle.line.specs.Lines.{line_net, net_of, tokens_of}
+use Rattle.line.specs.Flows.{Flows}
 
 pub record Slot (p : Place) : Type 0 where
   pub some : 1 ≤ p.limit
@@ -39,6 +40,7 @@ text_tokens n = tokens_at (vec_items n.places)
 pub record Tells (n : NetText) (l : Line) : Type 0 where
   pub text : LineText n
   pub net : net_of l ≡ text_net n
+  pub flows : Flows (net_of l)
   pub tokens : tokens_of l ≡ text_tokens n
 
 abbrev pub Made : NetText → Option Line → Type 0

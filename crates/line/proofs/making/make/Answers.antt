@@ -7,6 +7,7 @@ use Rattle.line.specs.declared.slot.Slot.{Slot}
 use Rattle.line.specs.Slots.{none, slot}
 use Rattle.line.specs.Making.{LineText}
 use Rattle.net_text.specs.Nets.{no_place, no_move, limit_at, tokens_at, letter_at}
+use Rattle.line.proofs.Flowing.{line_flows}
 use Rattle.line.proofs.Recorded.{some_made, small_made, held_made, tokens_made, net_made}
 use Rattle.line.proofs.making.make.Goals as goal
 use Rattle.line.proofs.making.make.Goals.{After-front-2, at-returns}
@@ -50,5 +51,6 @@ returns c =
     record {
       text = text;
       net = net_made ps c.front.result text.slots (slots d) c.len.result (length ps) _ _ (counted d) (letters d);
+      flows = line_flows c.len.result _ _ (omega (arith, counted d, text.some));
       tokens = tokens_made ps c.front.result text.slots (slots d) c.len.result (counted d);
     }
