@@ -2,10 +2,10 @@
 --   Single                the place p has the limit 1 and at most one token
 --   AllSingle             all places are so
 --   Shaped                a bank's kind and counts: four places a machine, one to eight machines, as many moves as places
---   BankText              a net text that a bank is made from
+--   BankText              a net text that a bank is made from: it has no arcs, since a bank's follow from its kind
 --   Made                  the net of the bank b is that of the moves' letters, and of machines; its tokens are those of the places
 --   Makes                 a bank that is made of x, if x is the text of one; else none
-use Rattle.std.specs.Prelude.{◌≡◌, ℕ, ◌%◌, ◌<◌, ◌≤◌, List, length, Some, None, vec_items, Option}
+use Rattle.std.specs.Prelude.{◌≡◌, ℕ, ◌%◌, ◌<◌, ◌≤◌, List, [], length, Some, None, vec_items, Option}
 use Rattle.formats.specs.declared.kind.Kind.TheVariants.{Bank as bank_kind}
 use Rattle.model.specs.Sizes.{most_places}
 use Rattle.net_text.specs.declared.net.Place.{Place}
@@ -31,6 +31,7 @@ pub record Shaped (x : NetText) : Type 0 where
 pub record BankText (x : NetText) : Type 0 where
   pub shaped : Shaped x
   pub single : AllSingle (vec_items x.places)
+  pub plain : vec_items x.arcs ≡ []
 
 pub record Made (x : NetText) (b : Bank) : Type 0 where
   pub net : net_of b ≡ bank_net (length (vec_items x.places)) (letter_at (vec_items x.moves))

@@ -37,7 +37,7 @@ fn all_single(places: &[Place]) -> bool
         .all(|place| place.limit == 1 && place.tokens <= 1)
 }
 
-// Whether the kind, the counts and the places are a bank's.
+// Whether the kind, the counts and the places are a bank's, and there are no arcs.
 fn is_bank(net: &NetText) -> bool
     ensures { Decides result (BankText net.now) }
 {
@@ -48,6 +48,7 @@ fn is_bank(net: &NetText) -> bool
         && count % 4 == 0
         && net.moves.len() == count
         && all_single(&net.places)
+        && net.arcs.is_empty()
 }
 
 // The bank that a net text describes; none if it describes no bank.

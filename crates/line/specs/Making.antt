@@ -1,11 +1,11 @@
 -- The line that a net text tells of.
 --   Slot             a record of a place that can stand in a line
 --   Slots            all of the records are
---   LineText         the net texts that tell of a line
+--   LineText         the net texts that tell of a line: they have no arcs, since a line's follow from its kind
 --   text_net, text_tokens  the net and the tokens that a text tells of, if it tells of a line
 --   Tells            the text n tells of the line l, whose net flows as a line does
 --   Made             what is made of a net text: such a line, or nothing if it does not tell of one
-use Rattle.std.specs.Prelude.{◌≡◌, ℕ, ◌+◌, ◌<◌, ◌≤◌, List, length, Some, None, vec_items, Option, slice_index_or}
+use Rattle.std.specs.Prelude.{◌≡◌, ℕ, ◌+◌, ◌<◌, ◌≤◌, List, [], length, Some, None, vec_items, Option, slice_index_or}
 use Rattle.model.specs.Net.{Net}
 use Rattle.model.specs.Sizes.{most_limit, most_moves}
 use Rattle.formats.specs.declared.kind.Kind.TheVariants as kinds
@@ -30,6 +30,7 @@ pub record LineText (n : NetText) : Type 0 where
   pub moves : length (vec_items n.moves) ≡ length (vec_items n.places) + 1
   pub few : length (vec_items n.moves) ≤ most_moves
   pub slots : Slots (vec_items n.places)
+  pub plain : vec_items n.arcs ≡ []
 
 abbrev pub text_net : NetText → Net
 text_net n = line_net (length (vec_items n.places)) (limit_at (vec_items n.places)) (letter_at (vec_items n.moves))

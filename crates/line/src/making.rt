@@ -17,6 +17,7 @@ fn is_line(net: &NetText) -> bool
         && 1 <= count
         && count <= PLACES
         && net.moves.len() == count + 1
+        && net.arcs.is_empty()
         && net.all_filled()
 }
 

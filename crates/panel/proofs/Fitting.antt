@@ -1,8 +1,8 @@
 -- A net that is proper fits the plant of its kind, and the plant's tokens are those of the text.
-use Rattle.std.proofs.Common.{◌≡◌, ℕ, zero, suc, ◌+◌, ◌%◌, ◌<◌, Bool, true, List, [], ◌∷◌, map, length, get_or, vec_items, vec_len, sym, refl, ap, ◌∙◌, subst, arith}
+use Rattle.std.proofs.Common.{◌≡◌, ℕ, zero, suc, ◌+◌, ◌%◌, ◌<◌, inl, inr, Bool, true, false, List, [], ◌∷◌, map, length, get_or, vec_items, vec_len, sym, refl, ap, ◌∙◌, subst, arith}
 use Rattle.std.specs.List.{AllByRecursion}
-use Rattle.std.proofs.lemmas.List.{length-map}
-use Rattle.std.proofs.lemmas.Bool.{and_from, le-leb, lt-ltb}
+use Rattle.std.proofs.lemmas.List.{length-map, nil_from_length}
+use Rattle.std.proofs.lemmas.Bool.{both_ways, and_from, le-leb, lt-ltb}
 use Rattle.model.specs.Sizes.{most_places, most_moves, most_arc, most_limit}
 use Rattle.formats.specs.declared.kind.Kind.{Kind}
 use Rattle.formats.specs.declared.kind.Kind.TheVariants.{Net, Bank, Line}
@@ -72,6 +72,14 @@ module _ (bs : List ℕ) (n : NetText) (p : Proper net_meaning (net_of bs n)) wh
           (and_from _ _ (lt-ltb a.transition (vec_len n.moves) (omega (arith, h.1)))
           (and_from _ _ (le-leb a.take most_arc (omega (arith, h.2))) (le-leb a.give most_arc (omega (arith, h.3)))))
 
+  -- no arcs, where the kind is not a net
+  unarced : is_net n.kind ≡ false → vec_items n.arcs ≡ []
+  unarced h =
+      elim p.right.plain [
+        | inl e ↦ absurd (both_ways (is_net n.kind) h (ap is_net e))
+        | inr e ↦ nil_from_length (vec_items n.arcs) (sym (length-map (vec_items n.arcs) arc_of) ∙ ap length e)
+      ]
+
   -- ---- a line
   pub fits_line : n.kind ≡ Line → LineText n
   fits_line e =
@@ -82,6 +90,7 @@ module _ (bs : List ℕ) (n : NetText) (p : Proper net_meaning (net_of bs n)) wh
         moves = sym moves_counted ∙ s ∙ ap (λ (k : ℕ). k + 1) places_counted;
         few = omega (arith, p.right.few_moves, moves_counted);
         slots = λ i l. let f = each_map Filled (place_of bs) ps no_place p.right.filled i l in record { some = f.1; small = omega (arith, f.2); within = f.0 };
+        plain = unarced (ap is_net e);
       }
 
   -- ---- a bank
@@ -101,4 +110,5 @@ module _ (bs : List ℕ) (n : NetText) (p : Proper net_meaning (net_of bs n)) wh
             let f = each_map Filled (place_of bs) ps no_place p.right.filled i l in
             let one = each_map (λ (q : said.Place). q.limit ≡ 1) (place_of bs) ps no_place s.2 i l in
             (one, omega (arith, f.0));
+        plain = unarced (ap is_net e);
       }
