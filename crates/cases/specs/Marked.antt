@@ -6,9 +6,13 @@
 --   seen_of          a case of the model, as one of this list
 --   marked_cases     the list
 --   AsMarked         each case of a list came out as it must
-use Rattle.std.specs.Prelude.{◌≡◌, ℕ, List, [], ◌∷◌, map, length, ℤ, pos, Ok, Err, Result, codes}
+--   line_of_two      the net of a buffer line of two places with limits 1, all moves controllable
+--   OnALine          the net that the list's cases of a line are about is that one
+use Rattle.std.specs.Prelude.{◌≡◌, ℕ, true, List, [], ◌∷◌, map, length, ℤ, pos, Ok, Err, Result, codes}
 use Rattle.model.specs.Refusals.{refusal_number}
+use Rattle.model.specs.Net.{Net}
 use Rattle.model.specs.Cases as model
+use Rattle.line.specs.Lines.{line_net}
 use Rattle.formats.specs.Texts.{Check}
 use Rattle.formats.specs.Sums.{Part, weight, read_sum}
 
@@ -41,3 +45,9 @@ marked_cases =
 abbrev pub AsMarked : List Case → Type 0
 AsMarked [] = Unit {0}
 AsMarked (c ∷ cs) = (c.came ≡ c.must) × AsMarked cs
+
+abbrev pub line_of_two : Net
+line_of_two = line_net 2 (λ p. 1) (λ t. true)
+
+abbrev pub OnALine : Type 0
+OnALine = model.line ≡ line_of_two
