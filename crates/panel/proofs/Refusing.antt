@@ -21,4 +21,5 @@ refusals_printed = record {
   no_names = refl;
   not_open = refl;
   no_room = refl;
+  two_rules = refl;
 }

@@ -37,3 +37,7 @@ pub record RefusalsPrinted : Type 0 where
   pub not_open : PrintedFor one_net one_rule (codes "commit a,report a,grant a,commit a,cancel a,show r,") (codes "no 36 a -,no 32 a -,ok,ok,no 36 a -,at r 0,")
   -- A is full, and the row of s is set once
   pub no_room : PrintedFor (codes "plant net,place A 1 1,move a c,arc A a 0 1,") (codes "fixed r A 5,rule s A 2,") (codes "grant a,admit s,admit s,show s,") (codes "no 35 a A,ok,no 39 - -,at s 1,")
+  -- rule line s belongs to row 0, rule line u to row 1; the move a brings one from A to B, and u lets no more than two stand at B
+  pub two_rules : PrintedFor (codes "plant net,place A 3 9,place B 1 9,move a c,move b c,arc A a 1 0,arc B a 0 1,arc B b 1 0,") (codes "fixed r A 9,rule s B 5,rule u B 2,")
+      (codes "show u,admit u,show u,show s,show r,grant a,grant a,grant b,commit b,grant a,admit s,commit a,commit a,admit s,show s,show B,show A,show r,")
+      (codes "at u 0,ok,at u 1,at s 0,at r 6,ok,no 34 a u,ok,ok,ok,no 37 - -,ok,ok,ok,at s 3,at B 2,at A 1,at r 8,")
