@@ -7,7 +7,7 @@ ghost use Rattle.model.specs.Sizes.{control_limit};
 use model::sizes::{CONTROL_LIMIT, MOST_MOVES};
 
 // By how much each move raises the rule, the tokens that are free, and whether a rule is set.
-// Kept: `in_use` is no `Option` of the arcs and the tokens: the project asks for twelve plain row structs in a board, and of a row without
+// Kept: `in_use` is no `Option` of the arcs and the tokens: a board has twelve plain row structs by decision, and of a row without
 // a rule the arcs and the tokens are asked too. They are 0, which `take`, `give` and `free` would each have to say of `None`.
 #[derive(Clone, Copy)]
 pub struct Row {

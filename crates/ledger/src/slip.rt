@@ -10,7 +10,7 @@ use plant::plant::Plant;
 
 // A slip for one open grant of a move. It may be let go only when it is spent, and only `commit_slip` and `cancel_slip` spend it: so
 // on each way out the driver commits or cancels.
-// Kept: the project asks for a slip whose `drop` requires that it be spent, and only a flag can say so of a slip that is let go.
+// Kept: it is decided that a slip's `drop` requires that it be spent, and only a flag can say so of a slip that is let go.
 pub struct Slip {
     transition: usize,
     spent: bool,

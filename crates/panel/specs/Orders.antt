@@ -8,7 +8,7 @@
 --   move_named, place_named   how the move and the place of a fault are printed
 --   answer_line      what is printed of an answer
 --   obeyed           what an order prints, on a ledger; next_ledger: the ledger after it
---   answers          what a list of order lines prints, each meeting what its forerunners left
+--   answers          what a list of order lines prints, each meeting what those before it left
 --   calls_in, calls_of   the calls that an order makes, one or none, and those of a list of order lines
 --   start_monitor, start_pile   a fixed monitor on the cell's plant, blank; and a board on it after its rule is set
 --   BuiltCell        the pile that the ledger is opened on is one that can be built, with the fixed rule in force, typed and worked; the

@@ -18,7 +18,7 @@ impl WorkedRule {
     pub(crate) fn rising<N: Net>(&self, net: &N) -> Option<Rising>
         ensures { result ≡ round_search (N.Net.net net.now) (worked_of self.now) }
     {
-        // Kept: a nested search that `break 'search` leaves is a form that the project names.
+        // Kept: a nested search that `break 'search` leaves is a form that is decided.
         let found = 'search: {
             'moves: for t in 0..net.moves() {
                 if !net.controllable(t) && self.raise(net, t) > 0 {

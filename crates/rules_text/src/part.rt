@@ -52,7 +52,7 @@ pub(crate) struct SumReader<'a> {
 }
 
 // What stands at `i`.
-// Kept: the match on the next sign with the signs as literal cases is a named form of the project.
+// Kept: the match on the next sign with the signs as literal cases is a form that is decided (docs/DECISIONS.md).
 pub(crate) fn next_at(sum: &[u8], i: usize) -> Next
     ensures { result ≡ next_at sum.now i }
 {
@@ -97,7 +97,7 @@ fn factor(digits: &[u8]) -> Option<u32>
     number(digits, FACTOR_DIGITS).filter(|n| *n >= 1)
 }
 
-// Kept: `start_within` is what the slice of the sum, a named form of the project, asks. A `get(start..)` would have an answer to give for
+// Kept: `start_within` is what the slice of the sum, a form that is decided, asks. A `get(start..)` would have an answer to give for
 // a start that no caller has; a struct of this reader and a start with that bound would be built for a part and again for its name,
 // and all below would read `self.reader.at` for `self.at`.
 impl SumReader<'_> {
