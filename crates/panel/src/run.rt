@@ -13,7 +13,7 @@ ghost use Rattle.panel.specs.Orders.{Started, Answered, ran};
 ghost use Rattle.panel.specs.Cells.{cell_of};
 ghost use Rattle.panel.specs.Said.{cell_said};
 ghost use Rattle.panel.specs.Run.{by_rules, printed};
-ghost use Rattle.panel.specs.Bad.{OrdersDecided, BadPrinted};
+ghost use Rattle.panel.specs.Bad.{OrdersDecided, TextsOf, BadPrinted};
 
 use crate::obey::obey_all;
 use crate::order::typed;
@@ -121,8 +121,8 @@ fn run_rules<'a>(
 // What the program prints for its net, its rules and its orders.
 pub fn panel(alloc: Global, net: &[u8], rules: &[u8], orders: &[u8]) -> Result<Vec<u8>, AllocError>
     ensures printed { IfOk result (λ v. v.items ≡ printed net.now rules.now orders.now) }
-    ensures proper { (x : NetSaid) (y : RulesSaid) → Proper net_meaning x → net.now ≡ written net_meaning x → Proper (rules_meaning (names x) (place_names x)) y → rules.now ≡ written (rules_meaning (names x) (place_names x)) y → IfOk result (λ v. v.items ≡ ran (cell_of x y) orders.now) }
-    ensures built { (x : NetSaid) (y : RulesSaid) → Proper net_meaning x → net.now ≡ written net_meaning x → Proper (rules_meaning (names x) (place_names x)) y → rules.now ≡ written (rules_meaning (names x) (place_names x)) y → IfOk result (λ v. Answered (cell_of x y) orders.now v.items) }
+    ensures proper { (x : NetSaid) (y : RulesSaid) → TextsOf x y net.now rules.now → IfOk result (λ v. v.items ≡ ran (cell_of x y) orders.now) }
+    ensures built { (x : NetSaid) (y : RulesSaid) → TextsOf x y net.now rules.now → IfOk result (λ v. Answered (cell_of x y) orders.now v.items) }
     ensures refused { IfOk result (λ v. BadPrinted net.now rules.now orders.now v.items) }
 {
     let mut out = Vec::new(alloc);

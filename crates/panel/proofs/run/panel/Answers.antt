@@ -35,25 +35,23 @@ returns-clause-printed c =
     ]
 
 pub returns-clause-proper : goal.returns-clause-proper
-returns-clause-proper c = λ x y p w q v.
-    returns-clause-printed c
-    ∙ texts_ran c.args.net.now c.args.rules.now c.args.orders.now x y (record { net_proper = p; net_written = w; rules_proper = q; rules_written = v })
+returns-clause-proper c = λ x y t. returns-clause-printed c ∙ texts_ran c.args.net.now c.args.rules.now c.args.orders.now x y t
 
 pub returns-clause-built : goal.returns-clause-built
-returns-clause-built c = λ x y p w q v.
+returns-clause-built c = λ x y t.
     answered (cell_of x y) c.args.orders.now _
     (elim c.match-read_net.branch [
       | in-Ok+in_ok-run_rules-in-Ok k ↦
           let read : NetText = net_of c.args.net.now k.in-Ok.read in
-          let same : read ≡ x = only_one (sym k.in-Ok.ensures.answer ∙ (net_exact c.args.net.now x).1 p w) in
+          let same : read ≡ x = only_one (sym k.in-Ok.ensures.answer ∙ (net_exact c.args.net.now x).1 t.net_proper t.net_written) in
           subst (λ (n : NetText). read_rules (names n) (place_names n) c.args.rules.now ≡ Ok y → Started (cell_of n y) c.args.orders.now) same
           (k.in_ok-run_rules-in-Ok.ensures.built y)
-          ((rules_exact x p.right c.args.rules.now y).1 q v)
+          ((rules_exact x t.net_proper.right c.args.rules.now y).1 t.rules_proper t.rules_written)
       | in-Err+in_ok-put_stop-in-Err k ↦
           let not_written = rw k.in_ok-put_stop-in-Err.ensures.1 at k.in-Err.ensures.accepted in
-          absurd (not_written x p w)
+          absurd (not_written x t.net_proper t.net_written)
     ])
-    (returns-clause-proper c x y p w q v)
+    (returns-clause-proper c x y t)
 
 pub returns-clause-refused : goal.returns-clause-refused
 returns-clause-refused c = subst (BadPrinted c.args.net.now c.args.rules.now c.args.orders.now) (sym (returns-clause-printed c)) (bad_printed c.args.net.now c.args.rules.now c.args.orders.now)
