@@ -9,3 +9,4 @@ pub mod Making
 pub mod Same
 pub mod Bad
 pub mod Refusing
+pub mod Naming

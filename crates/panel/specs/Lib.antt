@@ -3,6 +3,7 @@ pub mod Cells
 pub mod Said
 pub mod Orders
 pub mod Asked
+pub mod Naming
 pub mod Run
 pub mod Bad
 pub mod Example

@@ -14,6 +14,7 @@ ghost use Rattle.panel.specs.Cells.{cell_of};
 ghost use Rattle.panel.specs.Said.{cell_said};
 ghost use Rattle.panel.specs.Run.{by_rules, printed};
 ghost use Rattle.panel.specs.Bad.{OrdersDecided, TextsOf, BadPrinted};
+ghost use Rattle.panel.specs.Naming.{NamesRead};
 
 use crate::obey::obey_all;
 use crate::order::typed;
@@ -142,4 +143,9 @@ pub fn panel(alloc: Global, net: &[u8], rules: &[u8], orders: &[u8]) -> Result<V
 // Each orders text passes the checks of the whole text or is refused with one fault, never both.
 pub fn orders_decided()
     ensures { OrdersDecided }
+{}
+
+// Of two proper texts each order is what its word and the name in it say.
+pub fn names_read()
+    ensures { (x : NetSaid) (y : RulesSaid) → Proper net_meaning x → Proper (rules_meaning (names x) (place_names x)) y → NamesRead x y }
 {}
