@@ -258,7 +258,7 @@ with_places k = record {
 
 abbrev pub numbered_cases : List Case
 numbered_cases =
-    -- the move 3 is not there; out is a sensor's move, and in a driver's
+    -- the move 3 is not there; the move 1 is a sensor's to report, the move 0 a driver's to be granted
     record { came = calls example_cell (grant 3 ∷ report 3 ∷ commit 3 ∷ cancel 3 ∷ grant 1 ∷ report 0 ∷ []); must = refused 30 None ∷ refused 30 None ∷ refused 30 None ∷ refused 30 None ∷ refused 31 None ∷ refused 32 None ∷ [] }
     -- none of the move is open, though one of another is
     ∷ record { came = calls example_cell (grant 0 ∷ commit 2 ∷ cancel 2 ∷ commit 0 ∷ commit 0 ∷ []); must = passed ∷ refused 36 None ∷ refused 36 None ∷ passed ∷ refused 36 None ∷ [] }

@@ -15,7 +15,7 @@
 --   set_by         the pile after a setting, by what working answered
 --   done           what an accepted call does
 --   answer, next   what a call answers, and the ledger after it
---   run, answers   the same over a list, each call meeting what its forerunners left
+--   run, answers   the same over a list, each call meeting what those before it left
 use Rattle.std.specs.Prelude.{ℕ, ◌+◌, ◌-◌, ◌*◌, max, Bool, cond, not, List, [], ◌∷◌, Ok, Err, Option, Result, ◌==◌, nat_lt}
 use Rattle.model.specs.declared.refusal.Refusal.TheVariants.{Uncontrollable, Controllable, TooManyOpen, NoRoom, NotOpen, GrantsOpen}
 use Rattle.model.specs.declared.fault.Fault.{Fault}

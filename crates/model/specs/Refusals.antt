@@ -25,7 +25,7 @@ refusal_number ArcNotAllowed = 17
 refusal_number NotOfKind = 18
 -- a sum that is not written as a sum is, or weighs too much
 refusal_number Sum = 19
--- no place gives way to an uncontrollable move that raises the rule
+-- there is no ground place from which an uncontrollable move that raises the rule takes more than it gives
 refusal_number NotAbsorbed = 20
 -- a weight or a bound grows too large in working
 refusal_number TooLarge = 21

@@ -87,7 +87,7 @@ pub record EndlessOf (n : Net) (most : ℕ) (r : Worked) : Type 0 where
   pub raised : ℕ
   pub rising : LowestRising n last move raised
 
--- no ground place gives way to the move
+-- from no ground place does the move take more than it gives
 pub record StuckOf (n : Net) (most : ℕ) (r : Worked) : Type 0 where
   pub count : ℕ
   pub few : count < most
