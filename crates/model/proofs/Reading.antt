@@ -1,5 +1,5 @@
 -- What is promised, read off the invariant.
-use Rattle.std.proofs.Common.{◌≡◌, ℕ, ◌+◌, ◌*◌, ◌<◌, ◌≤◌, max, true, false, not, ltb, ◌⊎◌, List, ℤ, pos, ◌+ℤ◌, ◌*ℤ◌, nat_abs, ◌≤ℤ◌, ◌<ℤ◌, Some, Ok, sym, refl, ap, ◌∙◌, subst, inl, inr, le_trans, mul-le-mul_right, mul-le-mul_left, arith, lit≤, ltb-false, ltb-true, lt-ltb}
+use Rattle.std.proofs.Common.{◌≡◌, ℕ, ◌+◌, ◌*◌, ◌<◌, ◌≤◌, max, true, false, not, ltb, ◌⊎◌, List, ℤ, pos, ◌+ℤ◌, ◌*ℤ◌, nat_abs, ◌≤ℤ◌, ◌<ℤ◌, Some, Ok, Err, sym, refl, ap, ◌∙◌, subst, inl, inr, le_trans, mul-le-mul_right, mul-le-mul_left, arith, lit≤, ltb-false, ltb-true, lt-ltb}
 use mathlib.Core.List.{Memᴰ}
 use Rattle.std.proofs.lemmas.Bool.{cases_lt}
 use native.Mathlib.Nat.{le-max_left, max-le}
@@ -8,7 +8,7 @@ use borrow.Author.Differences.{ints}
 use Rattle.model.specs.declared.refusal.Refusal.TheVariants.{Uncontrollable, TooManyOpen, Short, NoRoom, NotOpen}
 use Rattle.model.specs.Sizes.{most_limit, most_worked_bound, most_control_arc, most_open, control_limit}
 use Rattle.model.specs.Net.{Net, signed_sum}
-use Rattle.model.specs.Plant.{Answer, fault_of, fault_at, refuse_at, refuse_unless, ◌else_by◌, known, short_place, begin_answer, finish_answer, back_answer, named_place}
+use Rattle.model.specs.Plant.{Answer, fault_of, fault_at, refuse_at, refuse_unless, ◌else_by◌, known, short_place, begin_answer, finish_answer, back_answer}
 use Rattle.model.specs.Rule.{weighted, raise, positive}
 use Rattle.model.specs.Layer.{InForce}
 use Rattle.model.specs.Ledger.{Ledger, open_count, taken, reserved, crowded, crowded_place, room_answer, grant_checks, grant_answer, is_open, commit_answer, cancel_answer, report_answer, net_under, free_under}
@@ -140,24 +140,22 @@ module _ (n : Net) (free g : ℕ → ℕ) (q : ℕ → ℤ) (rs : List InForce) 
       ∙ ok_else (refuse_unless (n.controllable t) (fault_of Uncontrollable t)) (refuse_unless (ltb (open_count n g) most_open) (fault_of TooManyOpen t)) (passes_if (n.controllable t) (fault_of Uncontrollable t) m.1)
       ∙ passes_if (ltb (open_count n g) most_open) (fault_of TooManyOpen t) (lt-ltb (open_count n g) most_open m.2)
 
-  only : (t c : ℕ) → grant_checks n g t ≡ Ok tt → n.ground_places ≤ c → RefusedAt (grant_answer n free g t) c → Lets n b t × LowestBroken n b t c
+  -- the whole fault of a place that is short
+  short_fault : (t c : ℕ) → grant_checks n g t ≡ Ok tt → short_place n free t ≡ Some c → grant_answer n free g t ≡ Err (fault_at n Short t c)
+  short_fault t c e k = grant_is t e ∙ ap (λ o. refuse_at (fault_at n Short t) o else_by refuse_at (fault_at n NoRoom t) (crowded_place n free g t)) k
+
+  only : (t c : ℕ) → grant_checks n g t ≡ Ok tt → n.ground_places ≤ c → RefusedAt (grant_answer n free g t) c → Lets n b t × LowestBroken n b t c × (grant_answer n free g t ≡ Err (fault_at n Short t c))
   only t c e low h = go (names_cases n t (short_place n free t) (crowded_place n free g t) c (subst (λ (a : Answer). RefusedAt a c) (grant_is t e) h))
     where
-      go : (short_place n free t ≡ Some c) ⊎ (crowded_place n free g t ≡ Some c) → Lets n b t × LowestBroken n b t c
-      go (inl k) = (short_lets t c low k, short_lowest t c low k (s.control c low))
+      go : (short_place n free t ≡ Some c) ⊎ (crowded_place n free g t ≡ Some c) → Lets n b t × LowestBroken n b t c × (grant_answer n free g t ≡ Err (fault_at n Short t c))
+      go (inl k) = (short_lets t c low k, short_lowest t c low k (s.control c low), short_fault t c e k)
       go (inr k) = absurd (no_room_fault t c low k)
 
-  always : (t : ℕ) (r : InForce) → grant_checks n g t ≡ Ok tt → Lets n b t → Memᴰ r rs → Breaks n b t r → (c : ℕ) × ((n.ground_places ≤ c) × RefusedAt (grant_answer n free g t) c)
+  always : (t : ℕ) (r : InForce) → grant_checks n g t ≡ Ok tt → Lets n b t → Memᴰ r rs → Breaks n b t r → (c : ℕ) × ((n.ground_places ≤ c) × (grant_answer n free g t ≡ Err (fault_at n Short t c)))
   always t r e lets m h = go (lowest_passes (λ i. ltb (free i) (n.take i t)) n.places r.place (s.rules r m).high (breaks_short t r (s.rules r m) h))
     where
-      go : (c : ℕ) × (short_place n free t ≡ Some c) → (c : ℕ) × ((n.ground_places ≤ c) × RefusedAt (grant_answer n free g t) c)
-      go x = (
-        x.0,
-        (
-          lets_low t x.0 lets (lowest_some (λ i. ltb (free i) (n.take i t)) n.places x.0 x.1).0,
-          ap named_place (grant_is t e ∙ ap (λ o. refuse_at (fault_at n Short t) o else_by refuse_at (fault_at n NoRoom t) (crowded_place n free g t)) x.1),
-        ),
-      )
+      go : (c : ℕ) × (short_place n free t ≡ Some c) → (c : ℕ) × ((n.ground_places ≤ c) × (grant_answer n free g t ≡ Err (fault_at n Short t c)))
+      go x = (x.0, (lets_low t x.0 lets (lowest_some (λ i. ltb (free i) (n.take i t)) n.places x.0 x.1).0, short_fault t x.0 e x.1))
 
   -- ---- reports, commits and cancels
   reported : (t c : ℕ) → n.ground_places ≤ c → RefusedAt (report_answer n free g t) c → ⊥

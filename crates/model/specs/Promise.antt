@@ -7,15 +7,17 @@
 --   LowestBroken    (by the book) the place of the lowest rule that the move would so break
 --   MayAsk          (by the book) a grant of the move passes the checks 30, 31 and 33
 --   RefusedAt       an answer that names this place
+--   RefusedShort    a grant of the move is refused for want of tokens at this place: the whole fault
 --   Agrees          the book's q and v are the ledger's marking of the ground places and its open counts
 --   Sums, Grants, Passes   the three parts of the promise
 --   Upheld          all that is promised of a ledger and its book
 --   Promise         that it holds after every list of calls
-use Rattle.std.specs.Prelude.{◌≡◌, ℕ, ◌*◌, ◌<◌, ◌≤◌, true, List, ℤ, pos, ◌+ℤ◌, ◌*ℤ◌, ◌≤ℤ◌, ◌<ℤ◌, Some, Ok}
+use Rattle.std.specs.Prelude.{◌≡◌, ℕ, ◌*◌, ◌<◌, ◌≤◌, true, List, ℤ, pos, ◌+ℤ◌, ◌*ℤ◌, ◌≤ℤ◌, ◌<ℤ◌, Some, Ok, Err}
 use mathlib.Core.List.{Memᴰ}
+use Rattle.model.specs.declared.refusal.Refusal.TheVariants.{Short}
 use Rattle.model.specs.Sizes.{most_open}
 use Rattle.model.specs.Net.{Net, sum, signed_sum}
-use Rattle.model.specs.Plant.{Answer, named_place}
+use Rattle.model.specs.Plant.{Answer, fault_at, named_place}
 use Rattle.model.specs.Rule.{weighted, raise, positive}
 use Rattle.model.specs.Layer.{Pile, InForce, Built}
 use Rattle.model.specs.Ledger.{Ledger, Call, grant, commit, cancel, report, new_ledger, net_under, free_under, open_count, taken, marking, answer, run, answers}
@@ -23,6 +25,10 @@ use Rattle.model.specs.Book.{Book, book_of, acceptances}
 
 abbrev pub RefusedAt : Answer → ℕ → Type 0
 RefusedAt a c = named_place a ≡ Some c
+
+-- the number, the move, the place, its layer and its row; so the answer names the place
+abbrev pub RefusedShort : Ledger → ℕ → ℕ → Type 0
+RefusedShort l t c = answer l (grant t) ≡ Err (fault_at (net_under l) Short t c)
 
 abbrev pub Lets : Net → Book → ℕ → Type 0
 Lets n b t = (p : ℕ) → p < n.ground_places → (pos (n.take p t) +ℤ pos (taken n b.v p)) ≤ℤ b.q p
@@ -64,12 +70,12 @@ pub record Sums (l : Ledger) (b : Book) : Type 0 where
   pub as_typed : (r : InForce) → Memᴰ r b.rules → weighted (net_under l) r.typed.weight b.q ≤ℤ r.typed.bound
 
 -- a grant that may be asked is refused at a control place exactly when the ground places let it begin and it would break a
--- rule in force; and then the place is that of the lowest such rule
+-- rule in force; and then the place is that of the lowest such rule, and the fault is want of tokens there
 pub record Grants (l : Ledger) (b : Book) : Type 0 where
   pub only : (t c : ℕ) → MayAsk (net_under l) b t → (net_under l).ground_places ≤ c → RefusedAt (answer l (grant t)) c →
-      Lets (net_under l) b t × LowestBroken (net_under l) b t c
+      Lets (net_under l) b t × LowestBroken (net_under l) b t c × RefusedShort l t c
   pub always : (t : ℕ) (r : InForce) → MayAsk (net_under l) b t → Lets (net_under l) b t → Memᴰ r b.rules →
-      Breaks (net_under l) b t r → (c : ℕ) × (((net_under l).ground_places ≤ c) × RefusedAt (answer l (grant t)) c)
+      Breaks (net_under l) b t r → (c : ℕ) × (((net_under l).ground_places ≤ c) × RefusedShort l t c)
 
 -- a report is not refused at a control place; a commit or cancel of an open grant is not refused
 pub record Passes (l : Ledger) : Type 0 where
