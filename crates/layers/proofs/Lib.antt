@@ -7,3 +7,4 @@ pub mod Checking
 pub mod RowSet
 pub mod Stacking
 pub mod Numbering
+pub mod OnTop

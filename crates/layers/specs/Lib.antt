@@ -6,3 +6,4 @@ pub mod Stacking
 pub mod Layered
 pub mod Kept
 pub mod Shut
+pub mod OnTop

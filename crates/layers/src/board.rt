@@ -1,9 +1,11 @@
 // The board: a layer of twelve rows.
 ghost use Rattle.std.specs.Prelude.{◌≡◌, ℕ, Ok, Err};
+ghost use Rattle.layers.specs.OnTop.{OnTop};
 ghost use Rattle.layers.specs.Piles.{Fresh};
 ghost use Rattle.layers.specs.Setting.{SetTo};
 ghost use Rattle.layers.specs.Rows.{rows_of};
 ghost use Rattle.model.specs.Layer.{blank, board, board_answer};
+ghost use Rattle.model.specs.Sizes.{board_rows};
 ghost use Rattle.rules.specs.Rules.{rule_of};
 
 use crate::layer::Layer;
@@ -11,6 +13,7 @@ use crate::table::Table;
 use model::fault::Fault;
 use model::refusal::Refusal;
 use model::sizes::BOARD_ROWS;
+use plant::net::Net;
 use plant::plant::Plant;
 use rules::typed::TypedRule;
 
@@ -23,6 +26,7 @@ impl<P: Plant> Board<P> {
         ensures below { result.below ≡ below }
         ensures blank { rows_of result.rows.rows ≡ (λ r. blank) }
         ensures fresh { Fresh board (P.Net.net below) (P.Plant.tokens below) (⟦<Self as Plant>⟧.pile result) }
+        ensures on_top { OnTop board_rows (P.Net.net below) (⟦<Self as Net>⟧.net result) (P.Plant.tokens below) (⟦<Self as Plant>⟧.tokens result) }
     {
         Self::blank(below)
     }

@@ -3,6 +3,7 @@ ghost use Rattle.std.specs.Prelude.{◌≡◌, ℕ, ◌+◌, ◌&&◌, Bool, not
 ghost use Rattle.std.specs.Fn.{FnReturnsAt};
 ghost use Rattle.std.specs.Option.{option_or};
 ghost use Rattle.layers.specs.Layers.{own_row};
+ghost use Rattle.layers.specs.OnTop.{OnTop};
 ghost use Rattle.layers.specs.Piles.{Fresh};
 ghost use Rattle.layers.specs.Rows.{rows_of, top_of, Tells};
 ghost use Rattle.model.specs.Layer.{Row as RowValue, blank, is_shut, next_layer, row_count};
@@ -11,6 +12,7 @@ ghost use Rattle.model.specs.Plant.{lowest};
 use crate::row::Row;
 use crate::table::Table;
 use model::sizes::MOST_ALL_PLACES;
+use plant::net::Net;
 use plant::plant::Plant;
 
 // Any plant, and the rows whose control places stand after its places.
@@ -29,6 +31,7 @@ impl<P: Plant, const N: usize> Layer<P, Table<N>> {
         ensures below { result.below ≡ below }
         ensures blank { rows_of result.rows.rows ≡ (λ r. blank) }
         ensures fresh { Fresh (top_of N) (P.Net.net below) (P.Plant.tokens below) (⟦<Self as Plant>⟧.pile result) }
+        ensures on_top { OnTop (row_count (top_of N)) (P.Net.net below) (⟦<Self as Net>⟧.net result) (P.Plant.tokens below) (⟦<Self as Plant>⟧.tokens result) }
     {
         Layer {
             below,

@@ -1,14 +1,17 @@
 // The fixed monitor: a layer of one row.
 ghost use Rattle.std.specs.Prelude.{◌≡◌, ℕ, Ok, Err};
+ghost use Rattle.layers.specs.OnTop.{OnTop};
 ghost use Rattle.layers.specs.Piles.{Fresh};
 ghost use Rattle.layers.specs.Setting.{SetTo};
 ghost use Rattle.model.specs.Layer.{blank, monitor, monitor_answer};
+ghost use Rattle.model.specs.Sizes.{monitor_rows};
 ghost use Rattle.layers.specs.Rows.{rows_of};
 ghost use Rattle.rules.specs.Rules.{rule_of};
 
 use crate::layer::Layer;
 use crate::table::Table;
 use model::fault::Fault;
+use plant::net::Net;
 use plant::plant::Plant;
 use rules::typed::TypedRule;
 
@@ -21,6 +24,7 @@ impl<P: Plant> Monitor<P> {
         ensures below { result.below ≡ below }
         ensures blank { rows_of result.rows.rows ≡ (λ r. blank) }
         ensures fresh { Fresh monitor (P.Net.net below) (P.Plant.tokens below) (⟦<Self as Plant>⟧.pile result) }
+        ensures on_top { OnTop monitor_rows (P.Net.net below) (⟦<Self as Net>⟧.net result) (P.Plant.tokens below) (⟦<Self as Plant>⟧.tokens result) }
     {
         Self::blank(below)
     }
