@@ -52,6 +52,7 @@ impl<P: Plant> Board<P> {
         ensures below { self.new.below ≡ self.old.below }
         ensures refused { (f : Fault) → result ≡ Err f → self.new ≡ self.old }
         ensures set { result ≡ Ok tt → SetTo (⟦<Self as Plant>⟧.pile self.old) (⟦<Self as Plant>⟧.pile self.new) r (rule_of typed.now) }
+        ensures on_top { OnTop board_rows (P.Net.net self.new.below) (⟦<Self as Net>⟧.net self.new) (P.Plant.tokens self.new.below) (⟦<Self as Plant>⟧.tokens self.new) }
     {
         Fault::of_setting(Refusal::NoRow).unless(r < BOARD_ROWS)?;
         self.set_row(r, typed)

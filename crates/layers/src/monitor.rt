@@ -49,6 +49,7 @@ impl<P: Plant> Monitor<P> {
         ensures below { self.new.below ≡ self.old.below }
         ensures refused { (f : Fault) → result ≡ Err f → self.new ≡ self.old }
         ensures set { result ≡ Ok tt → SetTo (⟦<Self as Plant>⟧.pile self.old) (⟦<Self as Plant>⟧.pile self.new) 0 (rule_of typed.now) }
+        ensures on_top { OnTop monitor_rows (P.Net.net self.new.below) (⟦<Self as Net>⟧.net self.new) (P.Plant.tokens self.new.below) (⟦<Self as Plant>⟧.tokens self.new) }
     {
         self.set_row(0, typed)
     }

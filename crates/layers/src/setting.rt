@@ -1,5 +1,6 @@
 // Setting a row of a layer to a rule.
 ghost use Rattle.std.specs.Prelude.{◌≡◌, ℕ, ◌<◌, ◌≤◌, pos, Ok, Err, slice_index_or, unsigned_abs};
+ghost use Rattle.layers.specs.OnTop.{OnTop};
 ghost use Rattle.layers.specs.Rows.{top_of};
 ghost use Rattle.layers.specs.Setting.{Checks, SetTo};
 ghost use Rattle.model.specs.Layer.{row_count, top_answer};
@@ -55,6 +56,7 @@ impl<P: Plant, const N: usize> Layer<P, Table<N>> {
         ensures below { self.new.below ≡ self.old.below }
         ensures refused { (f : Fault) → result ≡ Err f → self.new ≡ self.old }
         ensures set { result ≡ Ok tt → SetTo (⟦<Self as Plant>⟧.pile self.old) (⟦<Self as Plant>⟧.pile self.new) r (rule_of typed.now) }
+        ensures on_top { OnTop (row_count (top_of N)) (P.Net.net self.new.below) (⟦<Self as Net>⟧.net self.new) (P.Plant.tokens self.new.below) (⟦<Self as Plant>⟧.tokens self.new) }
     {
         let rule = self.check_rule(r, typed)?;
         let raises = raises(&rule, &self.below);

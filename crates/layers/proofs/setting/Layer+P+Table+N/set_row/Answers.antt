@@ -8,6 +8,7 @@ use Rattle.model.specs.Rule.{weighted_free}
 use Rattle.rules.specs.Rules.{rule_of, worked_of}
 use Rattle.layers.specs.Piles.{pile_of}
 use Rattle.layers.specs.Shut.{changed_rows}
+use Rattle.layers.proofs.OnTop.{on_top}
 use Rattle.layers.proofs.RowSet.{spare_nonneg, spare_small, holds_so, set_to}
 use Rattle.layers.specs.Rows.{rows_of, top_of}
 use Rattle.layers.proofs.setting.Layer+P+Table+N.set_row.Goals as goal
@@ -46,3 +47,13 @@ returns-clause-set g c =
     let fits : SFits w32 c.spare-free.result = search rules in
     let spare = to_z-of_z w32 c.spare-free.result fits ∙ c.spare-free.ensures in
     λ _. set_to p c.args.r (rule_of c.args.typed.now) w checks.answer (checks.works w refl) (g.met.P.Net.sound s.below) c.requires c.raises-raises.result _ c.raises-raises.ensures.value (ap nat_abs spare) _ after
+
+pub returns-in_err-rule-clause-on_top : goal.returns-in_err-rule-clause-on_top
+returns-in_err-rule-clause-on_top g c =
+    let s = c.args.self.now in
+    on_top (row_count (top_of g.row.N)) (g.P.Net.net s.below) (rows_of s.rows.rows) (g.P.Plant.tokens s.below)
+
+pub returns-clause-on_top : goal.returns-clause-on_top
+returns-clause-on_top g c =
+    let s = c.args.self.now in
+    on_top (row_count (top_of g.row.N)) (g.P.Net.net s.below) (rows_of c.set_rule.new.self.rows) (g.P.Plant.tokens s.below)
