@@ -8,7 +8,8 @@ use Rattle.net_text.specs.declared.net.Arc.{Arc}
 use Rattle.model.specs.Sizes.{most_places, most_moves, most_arc}
 use Rattle.table.specs.declared.cell.Cell.{Cell}
 use Rattle.table.specs.Cells.{none, cell, put, cell_of}
-use Rattle.table.specs.Made.{joins, no_arc}
+use Rattle.table.specs.AsRead.{no_arc}
+use Rattle.table.specs.Made.{joins}
 use Rattle.table.proofs.Texts.{all_at, joined_parts}
 
 -- the table holds what the first j arcs have

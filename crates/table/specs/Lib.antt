@@ -1,3 +1,4 @@
 pub mod Cells
 pub mod Tables
+pub mod AsRead
 pub mod Made

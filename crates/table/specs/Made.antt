@@ -1,12 +1,11 @@
 -- Which net texts a table can be made of, and what it then is.
---   no_arc           what is read past the end of the arcs
 --   joins n k a      the arc is not too large, and between one of n places and one of k moves
 --   some_few most n  n is at least 1 and at most so many
 --   is_fit x         x is of the kind net and has places and moves, not too many, each place filled, each arc joining
 --   arc_amount       what the arcs take or give, by f, between place p and move t: that of the last of them, 0 if there is none
 --   text_net         the net that the records say
 --   text_tokens      the tokens that they say, at each place
---   Made x r         r is the table of x, or there is none since x does not fit
+--   Made x r         r is the table of x, its net as read, or there is none since x does not fit
 use Rattle.std.specs.Prelude.{◌≡◌, ℕ, Bool, true, false, cond, ◌&&◌, List, Some, None, vec_items, vec_len, fold, Option, ◌==◌, nat_le, nat_lt}
 use Rattle.model.specs.Sizes.{most_places, most_moves, most_arc}
 use Rattle.model.specs.Net.{Net}
@@ -17,10 +16,8 @@ use Rattle.net_text.specs.declared.net.NetText.{NetText}
 pub use Rattle.net_text.specs.Filled.{is_filled}
 use Rattle.net_text.specs.Nets.{tokens_at, limit_at, letter_at}
 use Rattle.table.specs.declared.table.Table.{Table}
+use Rattle.table.specs.AsRead.{AsRead}
 use Rattle.table.specs.Tables.{table_net, net_of, tokens_of}
-
-abbrev pub no_arc : Arc
-no_arc = record { place = 0; transition = 0; take = 0; give = 0 }
 
 abbrev pub joins : ℕ → ℕ → Arc → Bool
 joins n k a = nat_lt a.place n && (nat_lt a.transition k && (nat_le a.take most_arc && nat_le a.give most_arc))
@@ -47,4 +44,4 @@ text_tokens x = tokens_at (vec_items x.places)
 
 abbrev pub Made : NetText → Option Table → Type 0
 Made x None = is_fit x ≡ false
-Made x (Some s) = (is_fit x ≡ true) × (net_of s ≡ text_net x) × (tokens_of s ≡ text_tokens x)
+Made x (Some s) = (is_fit x ≡ true) × (net_of s ≡ text_net x) × (tokens_of s ≡ text_tokens x) × AsRead x (net_of s)

@@ -9,6 +9,7 @@ use Rattle.table.specs.Cells.{cell}
 use Rattle.table.specs.Made.{arc_amount, joins}
 use Rattle.plant.proofs.Made.{copied, mapped}
 use Rattle.table.proofs.Making.{Fits, fits_parts, taken, given, no_spare, some_limits, small_limits, held_by, limit_is, tokens_are, same_net}
+use Rattle.table.proofs.Reading.{as_made}
 use Rattle.table.proofs.make.make.Goals as goal
 use Rattle.table.proofs.make.make.Goals.{After-front-3, at-returns}
 
@@ -73,12 +74,11 @@ returns c =
     let ps = vec_items x.places in
     let n = c.len.result in
     let k = c.len-2.result in
-    let count : n ≡ length ps = c.len.ensures ∙ x.places.ok.0 in (
-      sym c.if-not-is_fit.ensures,
-      same_net n k (vec_len x.places) (vec_len x.moves) c.len.ensures c.len-2.ensures _ _ _ _ _ _ _ _
-          (λ t. ap (λ (b : Bool). ltb t k && b) (letters d t))
-          (λ p t. ap (λ (v : ℕ). cond (ltb p n && ltb t k) v 0) (takes d p t))
-          (λ p t. ap (λ (v : ℕ). cond (ltb p n && ltb t k) v 0) (gives d p t))
-          (λ p. limit_is ps (fits d).filled c.front-2.result (limits d) n p count),
-      (λ i p. tokens_are n p ps c.front-3.result count (tokens d) i),
-    )
+    let count : n ≡ length ps = c.len.ensures ∙ x.places.ok.0 in
+    as_made x _ _ (sym c.if-not-is_fit.ensures)
+    (same_net n k (vec_len x.places) (vec_len x.moves) c.len.ensures c.len-2.ensures _ _ _ _ _ _ _ _
+    (λ t. ap (λ (b : Bool). ltb t k && b) (letters d t))
+    (λ p t. ap (λ (v : ℕ). cond (ltb p n && ltb t k) v 0) (takes d p t))
+    (λ p t. ap (λ (v : ℕ). cond (ltb p n && ltb t k) v 0) (gives d p t))
+    (λ p. limit_is ps (fits d).filled c.front-2.result (limits d) n p count))
+    (λ i p. tokens_are n p ps c.front-3.result count (tokens d) i)
