@@ -2,10 +2,7 @@
 --   line_net         the net of a line of k places, with what is said of their limits and of the moves' letters; all else is 0
 --   net_of           the net of a line
 --   tokens_of        the tokens at each place of a line
---   line_fault       the fault of a move at a place of a line, which has no layers
-use Rattle.std.specs.Prelude.{ℕ, ◌+◌, Bool, false, cond, ◌&&◌, Some, ◌==◌, nat_lt, slice_index_or}
-use Rattle.model.specs.declared.refusal.Refusal.{Refusal}
-use Rattle.model.specs.declared.fault.Fault.{Fault}
+use Rattle.std.specs.Prelude.{ℕ, ◌+◌, Bool, false, cond, ◌&&◌, ◌==◌, nat_lt, slice_index_or}
 use Rattle.model.specs.Net.{Net}
 use Rattle.line.specs.declared.line.Line.{Line}
 use Rattle.line.specs.Slots.{slot}
@@ -29,6 +26,3 @@ net_of s = line_net s.count (λ p. (slot s.slots p).limit) (λ t. slice_index_or
 
 abbrev pub tokens_of : Line → ℕ → ℕ
 tokens_of s p = cond (nat_lt p s.count) (slot s.slots p).tokens 0
-
-abbrev pub line_fault : Refusal → ℕ → ℕ → Fault
-line_fault why t p = record { refusal = why; transition = Some t; spot = Some (record { place = p; layer = 0; row = 0 }) }
