@@ -1,34 +1,29 @@
 -- The orders by the names of a cell: all names of moves differ, and so do all names of places, rules among them.
-use Rattle.std.proofs.Common.{◌≡◌, ℕ, ◌+◌, ◌-◌, ◌<◌, cond, List, [], ◌∷◌, ◌++◌, map, length, get_or, refl, ap, ◌∙◌, subst, suc, arith}
+use Rattle.std.proofs.Common.{◌≡◌, ℕ, ◌+◌, ◌-◌, ◌<◌, false, cond, List, [], ◌∷◌, ◌++◌, map, length, get_or, refl, codes, ap, ◌∙◌, subst, suc, arith}
 use Rattle.std.specs.List.{AllByRecursion}
-use Rattle.std.proofs.lemmas.List.{get_or_append_left, get_or-append_right, length-map, length-append}
+use Rattle.std.proofs.lemmas.List.{get_or-map, get_or_append_left, get_or-append_right, length-map, length-append}
+use Rattle.std.proofs.ByRecursion.{All-append, All-weaker}
+use Rattle.std.proofs.lemmas.Slice.Eq.{bytes_eq-Decides}
+use Rattle.std.specs.Str.{bytes_eq}
 use Rattle.std.proofs.lemmas.Bool.{cond-true, cond-false, false_from_ne_true}
 use Rattle.model.specs.Ledger.{Call, grant, commit, cancel, report, admit}
 use Rattle.formats.specs.Words.{index_of, is_known, Known, Apart, New, AllDifferent}
 use Rattle.formats.specs.Texts.{Proper}
-use Rattle.formats.specs.NetText.{NetText, names, place_names, move_names}
+use Rattle.formats.specs.NetText.{NetText, Place, Move, names, place_names, move_names}
 use Rattle.formats.specs.NetClauses.{net_meaning}
 use Rattle.formats.specs.RulesText.{RulesText, RuleLine, RightLine, all_lines, rule_names, rules_meaning}
 use Rattle.formats.proofs.Tests.{d_known, name_index}
 use Rattle.formats.proofs.NetAdding.{all_split, apart_split}
-use Rattle.panel.specs.Cells.{cell_of, typed_of, pile_names, no_rule}
+use Rattle.panel.specs.Cells.{cell_of, typed_of, pile_names, no_place, no_move, no_rule}
 use Rattle.panel.specs.Orders.{Order, order_of}
 use Rattle.panel.specs.Orders.Order.{a_call, a_show, no_shape, no_name}
 use Rattle.panel.specs.Naming.{NamesRead}
 
 -- ---- names that differ, of two lists
-all_both : {A : Type 0} (P : A → Type 0) (xs ys : List A) → AllByRecursion P xs → AllByRecursion P ys → AllByRecursion P (xs ++ ys)
-all_both P [] ys h k = k
-all_both P (x ∷ xs) ys h k = (h.0, all_both P xs ys h.1 k)
-
-all_from : {A : Type 0} (P Q : A → Type 0) → ((x : A) → P x → Q x) → (xs : List A) → AllByRecursion P xs → AllByRecursion Q xs
-all_from P Q f [] h = tt
-all_from P Q f (x ∷ xs) h = (f x h.0, all_from P Q f xs h.1)
-
 apart_both : {A : Type 0} (R : A → A → Type 0) (xs ys : List A) → Apart R xs → Apart R ys → AllByRecursion (New R xs) ys → Apart R (xs ++ ys)
 apart_both R [] ys h k n = k
 apart_both R (x ∷ xs) ys h k n =
-    (all_both (λ y. R x y → ⊥) xs ys h.0 (all_from (New R (x ∷ xs)) (λ y. R x y → ⊥) (λ y m. m.0) ys n), apart_both R xs ys h.1 k (all_from (New R (x ∷ xs)) (New R xs) (λ y m. m.1) ys n))
+    (All-append (λ y. R x y → ⊥) xs ys h.0 (All-weaker (New R (x ∷ xs)) (λ y. R x y → ⊥) (λ y m. m.0) ys n), apart_both R xs ys h.1 k (All-weaker (New R (x ∷ xs)) (New R xs) (λ y m. m.1) ys n))
 
 -- ---- what a name is found as
 found_at : (call : ℕ → Order) (ns : List (List ℕ)) (i : ℕ) → AllDifferent ns → i < length ns → cond (is_known ns (get_or ns i [])) (call (index_of ns (get_or ns i []))) no_name ≡ call i
@@ -61,9 +56,28 @@ module _ (x : NetText) (y : RulesText) (p : Proper net_meaning x) (q : Proper (r
   many_rules : length (cell_of x y).rules ≡ length y.others
   many_rules = length-map y.others _
 
+  named_move : (t : ℕ) → t < length x.moves → get_or (move_names x) t [] ≡ (get_or x.moves t no_move).name
+  named_move t l = get_or-map (λ (m : Move). m.name) x.moves t no_move [] l
+
+  named_rule : (r : ℕ) → r < length y.others → get_or (map (λ (q : RuleLine). q.name) y.others) r [] ≡ (get_or y.others r no_rule).name
+  named_rule r l = get_or-map (λ (q : RuleLine). q.name) y.others r no_rule [] l
+
+  named_place : (i : ℕ) → i < length x.places → get_or (place_names x) i [] ≡ (get_or x.places i no_place).name
+  named_place i l = get_or-map (λ (q : Place). q.name) x.places i no_place [] l
+
   at_move : (call : ℕ → Call) (t : ℕ) → t < length x.moves
-      → cond (is_known (move_names x) (get_or (move_names x) t [])) (a_call (call (index_of (move_names x) (get_or (move_names x) t [])))) no_name ≡ a_call (call t)
-  at_move call t l = found_at (λ i. a_call (call i)) (move_names x) t moves_differ (omega (arith, many_moves))
+      → cond (is_known (move_names x) (get_or x.moves t no_move).name) (a_call (call (index_of (move_names x) (get_or x.moves t no_move).name))) no_name ≡ a_call (call t)
+  at_move call t l =
+      subst (λ n. cond (is_known (move_names x) n) (a_call (call (index_of (move_names x) n))) no_name ≡ a_call (call t)) (named_move t l)
+      (found_at (λ i. a_call (call i)) (move_names x) t moves_differ (omega (arith, many_moves)))
+
+  at_rule : (r : ℕ) → r < length y.others
+      → cond (is_known (map (λ (q : RuleLine). q.name) y.others) (get_or y.others r no_rule).name) (a_call (admit (index_of (map (λ (q : RuleLine). q.name) y.others) (get_or y.others r no_rule).name) (typed_of (get_or y.others (index_of (map (λ (q : RuleLine). q.name) y.others) (get_or y.others r no_rule).name) no_rule)))) no_name
+      ≡ a_call (admit r (typed_of (get_or y.others r no_rule)))
+  at_rule r l =
+      let f : ℕ → Order = λ i. a_call (admit i (typed_of (get_or y.others i no_rule))) in
+      subst (λ n. cond (is_known (map (λ (q : RuleLine). q.name) y.others) n) (f (index_of (map (λ (q : RuleLine). q.name) y.others) n)) no_name ≡ f r) (named_rule r l)
+      (found_at f (map (λ (q : RuleLine). q.name) y.others) r q.right.different.1 (omega (arith, many_rules)))
 
   at_place : (n : List ℕ) (i : ℕ) → get_or (pile_names (cell_of x y)) i [] ≡ n → i < length (pile_names (cell_of x y))
       → cond (is_known (pile_names (cell_of x y)) n) (a_show (index_of (pile_names (cell_of x y)) n)) no_name ≡ a_show i
@@ -84,18 +98,27 @@ module _ (x : NetText) (y : RulesText) (p : Proper net_meaning x) (q : Proper (r
   shapes (w ∷ n ∷ []) h = absurd (h refl)
   shapes (w ∷ n ∷ m ∷ fs) h = refl
 
+  other_word : (w n : List ℕ) → (w ≡ codes "grant" → ⊥) → (w ≡ codes "commit" → ⊥) → (w ≡ codes "cancel" → ⊥) → (w ≡ codes "report" → ⊥) → (w ≡ codes "admit" → ⊥) → (w ≡ codes "show" → ⊥) → order_of (cell_of x y) (w ∷ n ∷ []) ≡ no_shape
+  other_word w n a b d e f g =
+      cond-false _ _ _ (other w (codes "grant") a) ∙ cond-false _ _ _ (other w (codes "commit") b) ∙ cond-false _ _ _ (other w (codes "cancel") d)
+      ∙ cond-false _ _ _ (other w (codes "report") e) ∙ cond-false _ _ _ (other w (codes "admit") f) ∙ cond-false _ _ _ (other w (codes "show") g)
+    where
+      other : (u v : List ℕ) → (u ≡ v → ⊥) → bytes_eq u v ≡ false
+      other u v h = false_from_ne_true (bytes_eq u v) (λ t. h ((bytes_eq-Decides u v).0 t))
+
   pub names_read : NamesRead x y
   names_read = record {
     grants = at_move grant;
     commits = at_move commit;
     cancels = at_move cancel;
     reports = at_move report;
-    admits = λ r l. found_at (λ i. a_call (admit i (typed_of (get_or y.others i no_rule)))) (cell_of x y).rules r q.right.different.1 (omega (arith, many_rules));
-    shows_place = λ i l. at_place _ i (get_or_append_left (place_names x) (rule_names y) [] i (omega (arith, many_places))) (omega (arith, many));
+    admits = at_rule;
+    shows_place = λ i l. at_place _ i (get_or_append_left (place_names x) (rule_names y) [] i (omega (arith, many_places)) ∙ named_place i l) (omega (arith, many));
     shows_fixed = at_place _ (length x.places) (get_or-append_right (place_names x) (rule_names y) (length x.places) (length x.places) [] many_places (omega arith) ∙ ap (λ (i : ℕ). get_or (rule_names y) i []) no_further) (omega (arith, many));
-    shows_rule = λ r l. at_place _ (length x.places + 1 + r) (get_or-append_right (place_names x) (rule_names y) (length x.places) (length x.places + 1 + r) [] many_places (omega arith) ∙ ap (λ (i : ℕ). get_or (rule_names y) i []) (further r)) (omega (arith, many));
-    unknown_move = not_found (λ i. a_call (grant i)) (move_names x);
+    shows_rule = λ r l. at_place _ (length x.places + 1 + r) (get_or-append_right (place_names x) (rule_names y) (length x.places) (length x.places + 1 + r) [] many_places (omega arith) ∙ ap (λ (i : ℕ). get_or (rule_names y) i []) (further r) ∙ named_rule r l) (omega (arith, many));
+    unknown_move = λ n u. (not_found (λ i. a_call (grant i)) (move_names x) n u, not_found (λ i. a_call (commit i)) (move_names x) n u, not_found (λ i. a_call (cancel i)) (move_names x) n u, not_found (λ i. a_call (report i)) (move_names x) n u);
     unknown_rule = not_found (λ i. a_call (admit i (typed_of (get_or y.others i no_rule)))) (cell_of x y).rules;
     unknown_place = not_found a_show (pile_names (cell_of x y));
+    unknown_word = other_word;
     other_shape = shapes;
   }
