@@ -85,8 +85,8 @@ fn run_net(out: &mut Vec<u8>, said: &Said, orders: &[u8]) -> Result<(), AllocErr
 {
     let net = said.net;
     let net = net.net;
-    // Kept: three plants behind one trait, each of a type of its own. No `dyn Plant` can stand for the three, since `Plant` has a generic
-    // method, `over_place`, so each arm makes its plant and hands it on.
+    // Kept: three plants behind one trait, each of a type of its own. A pile holds its plant by value, which no `dyn Plant` is, so each
+    // arm makes its plant and hands it on.
     match net.kind {
         Kind::Net => run_made(out, said, table::make::make(net), orders),
         Kind::Bank => run_made(out, said, bank::making::make(net), orders),

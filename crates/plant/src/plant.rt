@@ -29,7 +29,11 @@ pub trait Plant: Net {
     }
 
     // The lowest place that has no room for what `added` says of it.
+    // Kept: it asks for a type of known size, and the next two search by themselves: a method with a type parameter, or one that calls
+    // it, would leave no `dyn Plant`.
     fn over_place<F: Fn(usize) -> u32>(&self, added: F) -> Option<usize>
+    where
+        Self: Sized,
         requires { (p : ℕ) → p < (Self.Net.net self.now).places → F.pre added p }
         ensures { (f : ℕ → ℕ) → Gives (F.post added) (Self.Net.net self.now).places f → result ≡ over_place (Self.Net.net self.now) (tokens self.now) f }
     {
@@ -40,14 +44,14 @@ pub trait Plant: Net {
     fn over_by_give(&self, t: usize) -> Option<usize>
         ensures { result ≡ over_place (Self.Net.net self.now) (tokens self.now) (λ p. (Self.Net.net self.now).give p t) }
     {
-        self.over_place(|p| self.give(p, t))
+        lowest(self.places(), |p| self.limit(p) - self.free(p) < self.give(p, t))
     }
 
     // The lowest place that has no room for what the move `t` takes there.
     fn over_by_take(&self, t: usize) -> Option<usize>
         ensures { result ≡ over_place (Self.Net.net self.now) (tokens self.now) (λ p. (Self.Net.net self.now).take p t) }
     {
-        self.over_place(|p| self.take(p, t))
+        lowest(self.places(), |p| self.limit(p) - self.free(p) < self.take(p, t))
     }
 
     // What `begin` would answer now.
