@@ -58,21 +58,24 @@ pub trait Plant: Net {
     fn may_begin(&self, t: usize) -> Result<(), Fault>
         ensures { result ≡ begin_answer (Self.Net.net self.now) (tokens self.now) t }
     {
-        self.answer_at(Refusal::Short, t, self.short_place(t))
+        self.known(t)?;
+        self.refuse_at(Refusal::Short, t, self.short_place(t))
     }
 
     // What `finish` would answer now.
     fn may_finish(&self, t: usize) -> Result<(), Fault>
         ensures { result ≡ finish_answer (Self.Net.net self.now) (tokens self.now) t }
     {
-        self.answer_at(Refusal::OverLimit, t, self.over_by_give(t))
+        self.known(t)?;
+        self.refuse_at(Refusal::OverLimit, t, self.over_by_give(t))
     }
 
     // What `back` would answer now.
     fn may_back(&self, t: usize) -> Result<(), Fault>
         ensures { result ≡ back_answer (Self.Net.net self.now) (tokens self.now) t }
     {
-        self.answer_at(Refusal::OverLimit, t, self.over_by_take(t))
+        self.known(t)?;
+        self.refuse_at(Refusal::OverLimit, t, self.over_by_take(t))
     }
 
     // Takes the tokens of the move `t` from its places, or answers at which place they are short.
