@@ -17,7 +17,8 @@ pub struct Grants {
     pub(crate) reserved: [u32; MOST_ALL_PLACES],
 }
 
-// The most that one grant of the move `t` may bring to the place `p`.
+// The most that one grant of the move `t` may bring to the place `p`. Inlined, since a call asks it of every place.
+#[inline(always)]
 fn most_brought<N: Net>(net: &N, p: usize, t: usize) -> u32
     ensures { result ≡ max ((N.Net.net net.now).take p t) ((N.Net.net net.now).give p t) }
 {
