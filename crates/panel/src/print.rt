@@ -48,7 +48,9 @@ pub(crate) fn put_no(
 ) -> Result<(), AllocError>
     ensures { OnOk result (out.new.items ≡ out.old.items ++ refused_line refusal transition.now place.now) }
 {
-    write!(out, "no\t{}\t", refusal.number()).map_err(|_| AllocError)?;
+    out.extend_from_slice(b"no\t")?;
+    write!(out, "{}", refusal.number()).map_err(|_| AllocError)?;
+    out.extend_from_slice(b"\t")?;
     out.extend_from_slice(transition)?;
     out.extend_from_slice(b"\t")?;
     out.extend_from_slice(place)?;
