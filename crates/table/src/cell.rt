@@ -25,8 +25,8 @@ impl Cell {
         }
     }
 
-    // Kept: three changes, since the closures that call them have no contract, and so these say which field is meant and which way.
-    // One `plus(number, tokens)` for the last two would leave the field to the closures of `Table::given` and `Table::returned`.
+    // Kept: three changes, since a call of the plant passes one by its name, and so these say which field is meant and which way.
+    // One `plus(number, tokens)` for the last two would leave the field to a closure at each call.
 
     // So many tokens less what is taken.
     pub(crate) fn taken(self, tokens: u32) -> u32

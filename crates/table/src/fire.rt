@@ -1,18 +1,35 @@
 // The table as a net and as a plant.
-ghost use Rattle.std.specs.Prelude.{◌≡◌, ℕ, ◌≤◌, if◌then◌else◌, ◌&&◌, nat_lt, Ok, slice_index, slice_index_or};
-ghost use Rattle.model.specs.Plant.{begin_answer, finish_answer, back_answer, begun, finished, gone_back};
+ghost use Rattle.std.specs.Prelude.{◌≡◌, ℕ, ◌<◌, ◌≤◌, if◌then◌else◌, ◌&&◌, nat_lt, slice_index};
+ghost use Rattle.model.specs.Sizes.{most_places, most_moves};
 ghost use Rattle.model.specs.Layer.{plant_alone};
 ghost use Rattle.table.specs.Cells.{none, cell};
-ghost use Rattle.table.specs.Tables.{net_of, tokens_in, tokens_of};
+ghost use Rattle.table.specs.Tables.{net_of, tokens_of};
 ghost use Rattle.std.proofs.Common.{rules, arith};
 
 use crate::cell::Cell;
 use crate::table::Table;
 use model::fault::Fault;
-use model::sizes::MOST_PLACES;
+use model::sizes::{MOST_MOVES, MOST_PLACES};
 use plant::net::Net;
 use plant::plant::Plant;
-use std::array;
+
+// Makes the tokens of the first `n` places anew: of the arc of the move `t` there, and of what they were.
+fn change<F: Fn(Cell, u32) -> u32>(
+    tokens: &mut [u32; MOST_PLACES],
+    arcs: &[[Cell; MOST_PLACES]; MOST_MOVES],
+    n: usize,
+    t: usize,
+    made: F,
+)
+    requires few { (n ≤ most_places) × (t < most_moves) }
+    requires may { (p : ℕ) → p < n → F.pre made (cell arcs.now p t) (slice_index tokens.old p) }
+    ensures changed { (p : ℕ) → p < n → F.post made (cell arcs.now p t) (slice_index tokens.old p) (slice_index tokens.new p) }
+    ensures rest { (p : ℕ) → n ≤ p → slice_index tokens.new p ≡ slice_index tokens.old p }
+{
+    'places: for (p, tokens) in tokens[..n].iter_mut().enumerate() {
+        *tokens = made(arcs[t][p], *tokens);
+    }
+}
 
 impl Table {
     // The arc between the place `p` and the move `t`; none if there is no such place or move.
@@ -24,36 +41,6 @@ impl Table {
         } else {
             Cell::NONE
         }
-    }
-
-    // Kept: `taken`, `given` and `returned`, one line each, have a call of the model each in their contracts. One function would take the
-    // method of `Cell` as a closure, with clauses on what it may be asked and what it answers. `held` is what the table asks of its tokens.
-
-    // The tokens once the move `t` has begun.
-    fn taken(&self, t: usize) -> [u32; MOST_PLACES]
-        requires { begin_answer (net_of self.now) (tokens_of self.now) t ≡ Ok tt }
-        ensures after { tokens_in self.now.places result ≡ begun (net_of self.now) (tokens_of self.now) t }
-        ensures held { (p : ℕ) → slice_index result p ≤ slice_index_or self.now.limits p 1 }
-    {
-        array::from_fn(|p| self.arcs[t][p].taken(self.tokens[p]))
-    }
-
-    // The tokens once the move `t` has finished.
-    fn given(&self, t: usize) -> [u32; MOST_PLACES]
-        requires { finish_answer (net_of self.now) (tokens_of self.now) t ≡ Ok tt }
-        ensures after { tokens_in self.now.places result ≡ finished (net_of self.now) (tokens_of self.now) t }
-        ensures held { (p : ℕ) → slice_index result p ≤ slice_index_or self.now.limits p 1 }
-    {
-        array::from_fn(|p| self.arcs[t][p].given(self.tokens[p]))
-    }
-
-    // The tokens once the move `t` has gone back.
-    fn returned(&self, t: usize) -> [u32; MOST_PLACES]
-        requires { back_answer (net_of self.now) (tokens_of self.now) t ≡ Ok tt }
-        ensures after { tokens_in self.now.places result ≡ gone_back (net_of self.now) (tokens_of self.now) t }
-        ensures held { (p : ℕ) → slice_index result p ≤ slice_index_or self.now.limits p 1 }
-    {
-        array::from_fn(|p| self.arcs[t][p].returned(self.tokens[p]))
     }
 }
 
@@ -122,19 +109,19 @@ impl Plant for Table {
     // where a refusal can stand.
     fn begin(&mut self, t: usize) -> Result<(), Fault> {
         self.may_begin(t)?;
-        self.tokens = self.taken(t);
+        change(&mut self.tokens, &self.arcs, self.places, t, Cell::taken);
         Ok(())
     }
 
     fn finish(&mut self, t: usize) -> Result<(), Fault> {
         self.may_finish(t)?;
-        self.tokens = self.given(t);
+        change(&mut self.tokens, &self.arcs, self.places, t, Cell::given);
         Ok(())
     }
 
     fn back(&mut self, t: usize) -> Result<(), Fault> {
         self.may_back(t)?;
-        self.tokens = self.returned(t);
+        change(&mut self.tokens, &self.arcs, self.places, t, Cell::returned);
         Ok(())
     }
 }

@@ -15,8 +15,7 @@ pub struct Table {
     pub(crate) controllable: [bool; MOST_MOVES],
     // the arc of each place, move by move
     pub(crate) arcs: [[Cell; MOST_PLACES]; MOST_MOVES],
-    // Kept: a call makes its tokens by one `from_fn` and leaves the limits. Over an array of both it would make the limits anew too, with
-    // a clause that they are as before; a loop over `iter_mut` would need an invariant in each call: which slots are changed so far.
+    // Kept: two arrays beside each other. Over one of both, `change` would also promise, and its invariant say, that each limit stays.
     pub(crate) limits: [u32; MOST_PLACES],
     pub(crate) tokens: [u32; MOST_PLACES],
     ghost some_places: { 1 ≤ places },
@@ -25,7 +24,7 @@ pub struct Table {
     ghost few_moves: { moves ≤ most_moves },
     ghost small_takes: { (p t : ℕ) → (cell arcs p t).take ≤ most_arc },
     ghost small_gives: { (p t : ℕ) → (cell arcs p t).give ≤ most_arc },
-    // no arc at a spare place, so that a call may go over all of them
+    // no arc at a spare place
     ghost spare: { (p t : ℕ) → places ≤ p → cell arcs p t ≡ none },
     ghost some_limits: { (p : ℕ) → 1 ≤ slice_index_or limits p 1 },
     ghost small_limits: { (p : ℕ) → slice_index_or limits p 1 ≤ most_limit },
