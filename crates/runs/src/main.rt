@@ -184,3 +184,28 @@ fn run(rt: &HostRuntime) -> io::Result<()> {
 fn main(rt: HostRuntime) -> io::Result<()> {
     run(&rt)
 }
+
+#[cfg(test)]
+mod tests {
+    use super::*;
+
+    fn free_at(plant: &dyn Plant, p: usize) -> u32 {
+        plant.free(p)
+    }
+
+    fn begin_one(plant: &mut dyn Plant, t: usize) -> Result<(), Fault> {
+        plant.begin(t)
+    }
+
+    // A plant can stand behind `dyn`, whatever its kind.
+    #[test]
+    fn table_behind_dyn(rt: HostRuntime) -> io::Result<()> {
+        let text = b"plant\tnet\nplace\tA\t1\t1\nmove\ttake\tc\narc\tA\ttake\t1\t0\n";
+        let net = read_net(rt.alloc(), text).map_err(|_| io::Error::other("not read"))?;
+        let mut plant = table::make::make(&net).ok_or_else(|| io::Error::other("not made"))?;
+        assert!(rt; begin_one(&mut plant, 0).is_ok());
+        assert!(rt; free_at(&plant, 0) == 0);
+        assert!(rt; begin_one(&mut plant, 0).is_err());
+        Ok(())
+    }
+}
