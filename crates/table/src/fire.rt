@@ -14,6 +14,8 @@ use plant::net::Net;
 use plant::plant::Plant;
 
 // Makes the tokens of the first `n` places anew: of the arc of the move `t` there, and of what they were.
+// Kept: the arcs of all moves beside `t`. Of a call with `&self.arcs[t]` the check says that the table has its arcs with that row put
+// there again, and each call would have to show that they are the same.
 fn change<F: Fn(Cell, u32) -> u32>(
     tokens: &mut [u32; MOST_PLACES],
     arcs: &[[Cell; MOST_PLACES]; MOST_MOVES],
