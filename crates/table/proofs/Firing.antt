@@ -4,6 +4,7 @@ use Rattle.std.proofs.lemmas.Bool.{cases_lt, and_from, cond-true, cond-false, lt
 use Rattle.model.specs.Plant.{Answer, accepted, begin_answer, finish_answer, back_answer, begun, finished, gone_back}
 use Rattle.plant.proofs.Answering.{begins, fits}
 use Rattle.table.specs.declared.table.Table.{Table}
+use Rattle.table.specs.declared.cell.Cell.{Cell}
 use Rattle.table.specs.Cells.{cell}
 use Rattle.table.specs.Tables.{net_of, tokens_in, tokens_of}
 
@@ -71,6 +72,12 @@ module _ (s : Table) (t : ℕ) where
   give_none : (p : ℕ) → s.places ≤ p → (net_of s).give p t ≡ 0
   give_none p h = no_arc s.places s.moves p t _ h
 
+  took_none : (p : ℕ) → s.places ≤ p → took p ≡ 0
+  took_none p h = ap (λ (c : Cell). c.take) (s.spare p t h)
+
+  gave_none : (p : ℕ) → s.places ≤ p → gave p ≡ 0
+  gave_none p h = ap (λ (c : Cell). c.give) (s.spare p t h)
+
   free_most : (p : ℕ) → tokens_of s p ≤ (net_of s).limit p
   free_most p =
       ⊎_elim
@@ -83,8 +90,9 @@ module _ (s : Table) (t : ℕ) where
     b = begins (net_of s) (tokens_of s) t e
 
     -- an accepted begin finds at each place what it takes there
-    pub begin_takes : (p : ℕ) → p < s.places → took p ≤ have p
-    begin_takes p l = omega (arith, b.1 p l, take_in b.0 p l, free_in p l)
+    pub begin_takes : (p : ℕ) → took p ≤ have p
+    begin_takes p =
+        ⊎_elim (λ l. omega (arith, b.1 p l, take_in b.0 p l, free_in p l)) (λ h. omega (arith, took_none p h)) (cases_lt p s.places)
 
     module _ (is : List ℕ) (made : (p : ℕ) → p < s.places → get_or is p 0 ≡ have p - took p) where
       begun_at : (p : ℕ) → p < s.places → get_or is p 0 ≡ tokens_of s p - (net_of s).take p t

@@ -6,7 +6,7 @@ use Rattle.table.proofs.Firing.{begin_takes, begun_after, begun_held}
 use Rattle.table.proofs.fire.TablePlant.begin.Goals as goal
 
 pub change-requires-clause-may : goal.change-requires-clause-may
-change-requires-clause-may c = λ p l. search (rules, begin_takes c.args.self.now c.args.t c.in_ok-may_begin.ensures p l)
+change-requires-clause-may c = λ p l. search (rules, begin_takes c.args.self.now c.args.t c.in_ok-may_begin.ensures p)
 
 pub invariant_of-self-clause-held : goal.invariant_of-self-clause-held
 invariant_of-self-clause-held c =
