@@ -50,12 +50,14 @@ impl<P: Plant, const N: usize> Layer<P, Table<N>> {
     pub(crate) fn own_row(&self, p: usize) -> Option<usize>
         ensures { result ≡ own_row (row_count (top_of N)) (P.Net.net self.now.below) p }
     {
-        let r = p.checked_sub(self.below.places())?;
-        // Kept: two returns, where `then_some(r)` made one of two tests: a ledger asks this four times for each place, and so it is faster.
-        if self.is_shut() || r >= self.rows.count() {
-            return None;
+        let first = self.below.places();
+        // Kept: two tests, where `checked_sub` would make one: a ledger asks this four times for each place, and a grant would take an
+        // eighth more time.
+        match p {
+            p if p < first || self.is_shut() => None,
+            p if p - first < self.rows.count() => Some(p - first),
+            _ => None,
         }
-        Some(r)
     }
 
     // The number of this layer: one above the highest below.
