@@ -44,14 +44,20 @@ pub trait Plant: Net {
     fn over_by_give(&self, t: usize) -> Option<usize>
         ensures { result ≡ over_place (Self.Net.net self.now) (tokens self.now) (λ p. (Self.Net.net self.now).give p t) }
     {
-        lowest(self.places(), |p| self.limit(p) - self.free(p) < self.give(p, t))
+        lowest(
+            self.places(),
+            |p| self.limit(p) - self.free(p) < self.give(p, t),
+        )
     }
 
     // The lowest place that has no room for what the move `t` takes there.
     fn over_by_take(&self, t: usize) -> Option<usize>
         ensures { result ≡ over_place (Self.Net.net self.now) (tokens self.now) (λ p. (Self.Net.net self.now).take p t) }
     {
-        lowest(self.places(), |p| self.limit(p) - self.free(p) < self.take(p, t))
+        lowest(
+            self.places(),
+            |p| self.limit(p) - self.free(p) < self.take(p, t),
+        )
     }
 
     // What `begin` would answer now.
