@@ -49,7 +49,7 @@ impl WorkedRule {
         ensures small { unsigned_abs result ≤ most_places * (most_worked_weight * most_limit) }
         ensures value { (f : ℕ → ℤ) → Gives (F.post value) ground f → result ≡ signed_sum ground (λ p. (worked_of self.now).weight p *ℤ f p) }
     {
-        (0..ground).map(|p| self.weight(p) * value(p)).sum()
+        (0..ground).map(|p| self.weights[p] * value(p)).sum()
     }
 
     // By how much the move `t` raises the weighted sum of the tokens.
