@@ -51,8 +51,8 @@ impl<P: Plant, const N: usize> Layer<P, Table<N>> {
         ensures { result ≡ own_row (row_count (top_of N)) (P.Net.net self.now.below) p }
     {
         let first = self.below.places();
-        // Kept: two tests, where `checked_sub` would make one: a ledger asks this four times for each place, and a grant would take an
-        // eighth more time.
+        // Kept: two tests, where `checked_sub` would make one: a ledger asks this four times for each place, and with that a grant and a
+        // cancel take a twelfth more instructions.
         match p {
             p if p < first || self.is_shut() => None,
             p if p - first < self.rows.count() => Some(p - first),
