@@ -42,7 +42,11 @@ impl WorkedRule {
         requires { unsigned_abs factor ≤ most_arc }
         ensures { (p : ℕ) → slice_index_or result p (pos 0) ≡ factor *ℤ (worked_of self.now).weight p }
     {
-        self.weights.map(|weight| factor * weight)
+        let mut weights = self.weights;
+        'places: for weight in &mut weights {
+            *weight = factor * *weight;
+        }
+        weights
     }
 
     // The weights after the round.
