@@ -42,6 +42,7 @@ impl WorkedRule {
         requires { unsigned_abs factor ≤ most_arc }
         ensures { (p : ℕ) → slice_index_or result p (pos 0) ≡ factor *ℤ (worked_of self.now).weight p }
     {
+        // Kept: a loop, where `map` of the array would make one weight after the other: some 750 instructions a round.
         let mut weights = self.weights;
         'places: for weight in &mut weights {
             *weight = factor * *weight;

@@ -49,6 +49,8 @@ impl WorkedRule {
         ensures small { unsigned_abs result ≤ most_places * (most_worked_weight * most_limit) }
         ensures value { (f : ℕ → ℤ) → Gives (F.post value) ground f → result ≡ signed_sum ground (λ p. (worked_of self.now).weight p *ℤ f p) }
     {
+        // Kept: the weights by their places, which are all there; `weight` would ask that of each, and a round of many places would
+        // take twice the time.
         (0..ground).map(|p| self.weights[p] * value(p)).sum()
     }
 

@@ -197,7 +197,7 @@ mod tests {
         plant.begin(t)
     }
 
-    // A plant can stand behind `dyn`, whatever its kind.
+    // A plant can stand behind `dyn`, as a table does here.
     #[test]
     fn table_behind_dyn(rt: HostRuntime) -> io::Result<()> {
         let text = b"plant\tnet\nplace\tA\t1\t1\nmove\ttake\tc\narc\tA\ttake\t1\t0\n";
